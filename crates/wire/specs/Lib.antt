@@ -1,0 +1,5 @@
+pub mod CellFormat
+pub mod Faults
+pub mod Files
+pub mod Reading
+pub mod StepFormat

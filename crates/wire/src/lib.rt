@@ -1,0 +1,8 @@
+// The files of a plan, byte by byte.
+pub mod cell;
+pub mod fault;
+pub mod files;
+pub mod model;
+mod reader;
+pub mod step;
+pub mod trail;

@@ -1,0 +1,9 @@
+pub mod Back
+pub mod CellBack
+pub mod CellSpelling
+pub mod Examples
+pub mod FileBack
+pub mod FileSpelling
+pub mod Fitting
+pub mod Sizes
+pub mod Spelling
