@@ -1,0 +1,10 @@
+pub mod Accept
+pub mod Below
+pub mod Cells
+pub mod Outgoing
+pub mod Plans
+pub mod Read
+pub mod Rules
+pub mod Runs
+pub mod Taken
+pub mod Whole
