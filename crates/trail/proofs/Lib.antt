@@ -1,0 +1,4 @@
+pub mod Counts
+pub mod Meeting
+pub mod Stepping
+pub mod Walked

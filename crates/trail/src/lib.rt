@@ -1,0 +1,4 @@
+// Trails through a model: set out, wait, start, finish.
+mod config;
+pub mod position;
+mod walk;
