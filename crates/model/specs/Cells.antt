@@ -5,7 +5,8 @@ use mathlib.Core.Bool.{Bool, true, false, cond}
 use mathlib.Core.List.{List, [], _∷_, map}
 use Prim.Native.Nat.{ℕ, _+_, _<_}
 use lib.Dec.{lit≤}
-use lib.ListN.{length, getD, take, replicate}
+use lib.ListN.{getD, replicate}
+use Rattle.std.specs.Iters.{counting}
 use Rattle.std.specs.declared.option.Option.the-variants.{None}
 use Rattle.wire.specs.declared.cell.Cell.{Cell}
 use Rattle.wire.specs.declared.cell.Ends.{Ends}
@@ -41,4 +42,4 @@ face cells upper i k = faceOf upper (eventAt (cellAt cells i) k)
 
 -- the letters of a cell's events, in order
 abbrev pub letters : Cell → List Letter
-letters c = map (λ (e : Event). e .letter) (take (c .dim) (c .events))
+letters c = map (λ k. eventAt c k .letter) (counting 0 (c .dim))

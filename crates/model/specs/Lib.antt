@@ -1,6 +1,7 @@
 pub mod Accept
 pub mod Below
 pub mod Cells
+pub mod Laws
 pub mod Outgoing
 pub mod Plans
 pub mod Read
