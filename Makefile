@@ -1,10 +1,10 @@
-# run: builds the program and walks the bundled example. test: the gate.
-EXAMPLE ?= examples/three-cells
+# run: builds the programs and judges the bundled examples. test: the gate.
+EXAMPLES = $(sort $(wildcard examples/*/))
 
 .PHONY: run test
 run:
-	rt check walk
-	cd $(EXAMPLE) && $(CURDIR)/target/bin/walk
+	rt check judge walk
+	@for d in $(EXAMPLES); do echo "== $$d"; (cd $$d && $(CURDIR)/target/bin/judge); done
 
 test:
 	.ci/run

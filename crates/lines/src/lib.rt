@@ -4,7 +4,8 @@ ghost use mathlib.Core.List.{_++_};
 ghost use Rattle.std.specs.declared.option.Option.the-variants.{Some};
 ghost use Rattle.std.specs.Of.String.{string-bytes};
 ghost use Rattle.std.specs.Vec.{made};
-ghost use Rattle.lines.specs.Lines.{tenths, stepWords, sixCounts, lineText, linesText};
+ghost use Rattle.lines.specs.Lines.{tenths, stepWords, sixCounts, verdictWord, lineText, linesText};
+use docket_theory::Verdict;
 use slip::Slip;
 use slip::SlipDisplay;
 use std::alloc::AllocError;
@@ -26,6 +27,14 @@ pub enum Line {
     NoTrail,
     // a refusal, which is the last line
     Refused(Slip),
+    // how many entries and duties a docket has, and how many duties are open
+    Entries {
+        entries: u16,
+        duties: u32,
+        open: u32,
+    },
+    // what the docket says of the model
+    Verdict(Verdict),
 }
 
 // Elapsed time in tenths of a unit, half a tenth up; no unit has no tick.
@@ -50,6 +59,22 @@ impl fmt::Display for Words as WordsDisplay {
             Step::Wait(ticks) => write!(f, "wait {ticks}"),
             Step::Start { cell, event } => write!(f, "start cell {cell} event {event}"),
             Step::Finish(event) => write!(f, "finish event {event}"),
+        }
+    }
+}
+
+// A verdict as a word.
+#[derive(Clone, Copy)]
+struct Word(Verdict);
+
+impl fmt::Display for Word as WordDisplay {
+    ghost shown = { λ w. Some (verdictWord (w .0)) };
+
+    fn fmt<W: fmt::Write>(&self, f: &mut fmt::Formatter<W>) -> fmt::Result {
+        match self.0 {
+            Verdict::Reached => write!(f, "reached"),
+            Verdict::Shut => write!(f, "shut"),
+            Verdict::Undecided => write!(f, "undecided"),
         }
     }
 }
@@ -96,6 +121,13 @@ fn trail_line(heap: Global, p: Position) -> Result<String, AllocError>
     format!(heap, "trail cell {cell} elapsed {whole}.{part}\n")
 }
 
+fn verdict_line(heap: Global, verdict: Verdict) -> Result<String, AllocError>
+    ensures { λ r. ⌜ made r (λ t. string-bytes t ≡ lineText (Line.Verdict verdict)) ⌝ }
+{
+    let word = Word(verdict);
+    format!(heap, "verdict {word}\n")
+}
+
 // The text of one line, with its end.
 pub fn text_of(heap: Global, line: Line) -> Result<String, AllocError>
     ensures { λ r. ⌜ made r (λ t. string-bytes t ≡ lineText line) ⌝ }
@@ -106,6 +138,12 @@ pub fn text_of(heap: Global, line: Line) -> Result<String, AllocError>
         Line::Trail(position) => trail_line(heap, position),
         Line::NoTrail => format!(heap, "trail none\n"),
         Line::Refused(slip) => format!(heap, "{slip}\n"),
+        Line::Entries {
+            entries,
+            duties,
+            open,
+        } => format!(heap, "entries {entries} duties {duties} open {open}\n"),
+        Line::Verdict(verdict) => verdict_line(heap, verdict),
     }
 }
 

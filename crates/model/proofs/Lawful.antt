@@ -63,17 +63,17 @@ module _ (f c : Cell) (k : ℕ) (lt : k < c .dim) (h : lacks f c k ≡ true) whe
   each : (j : ℕ) → j < f .dim → getD (removed (letters c) k) j Barrier ≡ eventAt f j .letter
   each j less = side (cases-lt j k)
     where
-    side : (j < k) ⊎ (k ≤ j) → getD (removed (letters c) k) j Barrier ≡ eventAt f j .letter
-    side (inl low) =
-        let e : past k j ≡ j = ap (λ (b : Bool). cond b j (j + 1)) (lt-ltb j k low) in
-        getD-removed-below (letters c) k Barrier j low inside
-        ∙ getD-map-counting (λ i. eventAt c i .letter) 0 (c .dim) j (past k j) Barrier (omega (arith, fewer)) (omega (arith, e))
-        ∙ sym (same j less)
-    side (inr high) =
-        let e : past k j ≡ j + 1 = ap (λ (b : Bool). cond b j (j + 1)) (le-ltb j k high) in
-        getD-removed-above (letters c) k Barrier j high inside
-        ∙ getD-map-counting (λ i. eventAt c i .letter) 0 (c .dim) (j + 1) (past k j) Barrier (omega (arith, fewer)) (omega (arith, e))
-        ∙ sym (same j less)
+      side : (j < k) ⊎ (k ≤ j) → getD (removed (letters c) k) j Barrier ≡ eventAt f j .letter
+      side (inl low) =
+          let e : past k j ≡ j = ap (λ (b : Bool). cond b j (j + 1)) (lt-ltb j k low) in
+          getD-removed-below (letters c) k Barrier j low inside
+          ∙ getD-map-counting (λ i. eventAt c i .letter) 0 (c .dim) j (past k j) Barrier (omega (arith, fewer)) (omega (arith, e))
+          ∙ sym (same j less)
+      side (inr high) =
+          let e : past k j ≡ j + 1 = ap (λ (b : Bool). cond b j (j + 1)) (le-ltb j k high) in
+          getD-removed-above (letters c) k Barrier j high inside
+          ∙ getD-map-counting (λ i. eventAt c i .letter) 0 (c .dim) (j + 1) (past k j) Barrier (omega (arith, fewer)) (omega (arith, e))
+          ∙ sym (same j less)
 
   lacks-letters : letters f ≡ removed (letters c) k
   lacks-letters =
@@ -117,12 +117,13 @@ module _ (p : Plan) (ok : Accepted p) where
   unfolding quietOk
   quiet i here why = by (or-cases (eqb (cellAt (p .cells) i .dim) 0) (not (eqb i (p .first) || cellAt (p .cells) i .last)) (all-at (length (p .cells)) i (quietOk (p .first) (p .cells)) (ok .quiet) here))
     where
-    busy : (i ≡ p .first) ⊎ (cellAt (p .cells) i .last ≡ true) → (eqb i (p .first) || cellAt (p .cells) i .last) ≡ true
-    busy (inl e) = or-left (eqb i (p .first)) (cellAt (p .cells) i .last) (eq-eqb i (p .first) e)
-    busy (inr e) = or-right (eqb i (p .first)) (cellAt (p .cells) i .last) e
-    by : (eqb (cellAt (p .cells) i .dim) 0 ≡ true) ⊎ (not (eqb i (p .first) || cellAt (p .cells) i .last) ≡ true) → cellAt (p .cells) i .dim ≡ 0
-    by (inl e) = eqb-true (cellAt (p .cells) i .dim) 0 e
-    by (inr e) = absurd (both-ways (eqb i (p .first) || cellAt (p .cells) i .last) (not-true (eqb i (p .first) || cellAt (p .cells) i .last) e) (busy why))
+      busy : (i ≡ p .first) ⊎ (cellAt (p .cells) i .last ≡ true) → (eqb i (p .first) || cellAt (p .cells) i .last) ≡ true
+      busy (inl e) = or-left (eqb i (p .first)) (cellAt (p .cells) i .last) (eq-eqb i (p .first) e)
+      busy (inr e) = or-right (eqb i (p .first)) (cellAt (p .cells) i .last) e
+
+      by : (eqb (cellAt (p .cells) i .dim) 0 ≡ true) ⊎ (not (eqb i (p .first) || cellAt (p .cells) i .last) ≡ true) → cellAt (p .cells) i .dim ≡ 0
+      by (inl e) = eqb-true (cellAt (p .cells) i .dim) 0 e
+      by (inr e) = absurd (both-ways (eqb i (p .first) || cellAt (p .cells) i .last) (not-true (eqb i (p .first) || cellAt (p .cells) i .last) e) (busy why))
 
   few : (i : ℕ) → i < length (p .cells) → length (movesOut (p .cells) i) ≤ 16
   unfolding fewOk

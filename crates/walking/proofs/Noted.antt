@@ -15,7 +15,8 @@ use Rattle.trail.specs.declared.position.Trail.{Trail}
 use Rattle.trail.specs.Calls.{Outcome, stepped}
 use Rattle.lines.specs.declared.Line.{Line}
 use Rattle.lines.specs.declared.Line.the-variants.{Took}
-use Rattle.walking.specs.Walk.{atPosition, afterCall, stepLines}
+use Rattle.lines.specs.Lines.{atPosition}
+use Rattle.walking.specs.Walk.{afterCall, stepLines}
 
 -- an accepted step whose line has been noted
 pub noted : (x : Step) (o : Outcome) (u : Trail) (p : Position) (old new : List Line) (rest : Trail → List Line) → o ≡ (Ok tt, u) → u .position ≡ Some p → new ≡ old ++ Took x p ∷ [] → old ++ afterCall o (λ v. atPosition (v .position) (Took x) ++ rest v) ≡ new ++ rest u

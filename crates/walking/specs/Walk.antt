@@ -12,16 +12,11 @@ use Rattle.wire.specs.declared.step.Step.{Step}
 use Rattle.wire.specs.Files.{trailFile}
 use Rattle.model.specs.Plans.{Plan}
 use Rattle.model.specs.Read.{readPlan}
-use Rattle.trail.specs.declared.position.Position.{Position}
 use Rattle.trail.specs.declared.position.Trail.{Trail}
 use Rattle.trail.specs.Calls.{Outcome, setOut, stepped}
+use Rattle.lines.specs.Lines.{atPosition}
 use Rattle.lines.specs.declared.Line.{Line}
 use Rattle.lines.specs.declared.Line.the-variants.{Cells, Took, NoTrail, Refused, Trail as Ended}
-
--- a line of the trail's position, where it has one
-abbrev pub atPosition : Option Position → (Position → Line) → List Line
-atPosition None line = []
-atPosition (Some p) line = line p ∷ []
 
 -- a refusal, or what follows with the trail as it then is
 abbrev pub unlessRefused : Result (Unit {0}) Slip → Trail → (Trail → List Line) → List Line

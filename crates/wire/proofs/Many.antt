@@ -43,3 +43,11 @@ pub refuses : {A B : Type 0} (view : A → B) (r : Result A Fault) (d : Result B
 refuses view (Ok x) d e h f = absurd h
 refuses view (Err (Refused y)) d e h f = f ∙ ap Err (cc)
 refuses view (Err Memory) d e h f = tt
+
+-- the exit of a `?` on a call that itself allocates
+pub passes-on : {A B D : Type 0} (view : A → B) (r : Result A Fault) (d : Result B Slip) (x : Result D Slip) (f : Fault)
+    → ErrBy r (λ y. y ≡ f) → Gives {A = D} (λ y. y) (Err f) x → ((e : Slip) → x ≡ Err e → d ≡ Err e) → Gives view r d
+passes-on view r d x (Refused e) h g k = refuses view r d e h (k e g)
+passes-on view (Ok v) d x Memory h g k = absurd h
+passes-on view (Err (Refused y)) d x Memory h g k = let n : _≡_ {A = ℕ} 0 1 = cc in absurd (omega arith)
+passes-on view (Err Memory) d x Memory h g k = tt

@@ -1,7 +1,7 @@
--- The model file and the trail file.
+-- The model file, the trail file and the cover file.
 use Prim.Native.Nat.{ℕ, _-_}
 use mathlib.Core.Bool.{cond, _&&_}
-use mathlib.Core.List.{List, [], _∷_, _++_}
+use mathlib.Core.List.{List, [], _∷_, _++_, map}
 use lib.Dec.{leb, eqb}
 use lib.ListN.{length}
 use Rattle.std.specs.declared.option.Option.{Option}
@@ -11,12 +11,16 @@ use Rattle.std.specs.declared.result.Result.the-variants.{Ok, Err}
 use Rattle.std.specs.Of.Vec.{vec-items}
 use Rattle.slip.specs.declared.Refusal.the-variants.{BadCount, Surplus}
 use Rattle.slip.specs.declared.Slip.{Slip}
+use Rattle.clocks.specs.declared.Gap.{Gap}
 use Rattle.wire.specs.declared.cell.Cell.{Cell}
+use Rattle.wire.specs.declared.cover.CoverEntry.{CoverEntry}
+use Rattle.wire.specs.declared.cover.CoverFile.{CoverFile}
 use Rattle.wire.specs.declared.model.ModelFile.{ModelFile}
 use Rattle.wire.specs.declared.trail.TrailFile.{TrailFile}
 use Rattle.wire.specs.declared.step.Step.{Step}
 use Rattle.wire.specs.Reading.{Parsed, _⨟_, slip, wordAt, kept, many}
 use Rattle.wire.specs.CellFormat.{cellAt}
+use Rattle.wire.specs.CoverFormat.{entryAt}
 use Rattle.wire.specs.StepFormat.{nextAt}
 
 abbrev pub value : {A : Type 0} → Parsed A → Result A Slip
@@ -27,9 +31,9 @@ value (Err e) = Err e
 abbrev pub sized : {A : Type 0} → List ℕ → Parsed A → Result A Slip
 sized s d = cond (leb (length s) 60000) (value d) (Err (slip Surplus 60000))
 
--- the number of cells
-abbrev pub countAt : List ℕ → ℕ → Parsed ℕ
-countAt s p = wordAt s p ⨟ λ n q. kept (leb 1 n && leb n 200) BadCount p n q
+-- a number of records
+abbrev pub countAt : ℕ → ℕ → List ℕ → ℕ → Parsed ℕ
+countAt least most s p = wordAt s p ⨟ λ n q. kept (leb least n && leb n most) BadCount p n q
 
 unfoldable pub cellsAt : ℕ → List ℕ → ℕ → Parsed (List Cell)
 cellsAt n s p = many (λ cs _ c. cs ++ c ∷ []) (λ _. cellAt) [] n s p
@@ -41,7 +45,7 @@ closeAt s p = kept (eqb p (length s)) Surplus p tt p
 -- first cell and cells
 abbrev pub modelAt : List ℕ → Parsed (ℕ × List Cell)
 modelAt s =
-    countAt s 0 ⨟ λ n p. wordAt s p ⨟ λ first q. cellsAt n s q ⨟ λ cells r. closeAt s r ⨟ λ _ t. Ok ((first, cells), t)
+    countAt 1 200 s 0 ⨟ λ n p. wordAt s p ⨟ λ first q. cellsAt n s q ⨟ λ cells r. closeAt s r ⨟ λ _ t. Ok ((first, cells), t)
 
 abbrev pub modelFile : List ℕ → Result (ℕ × List Cell) Slip
 modelFile s = sized s (modelAt s)
@@ -61,8 +65,24 @@ trailAt s = wordAt s 0 ⨟ λ scale p. stepsAt (length s - p) s p ⨟ λ steps q
 abbrev pub trailFile : List ℕ → Result (ℕ × List Step) Slip
 trailFile s = sized s (trailAt s)
 
+unfoldable pub entriesAt : ℕ → List ℕ → ℕ → Parsed (List (ℕ × List Gap))
+entriesAt n s p = many (λ es _ e. es ++ e ∷ []) (λ _. entryAt) [] n s p
+
+-- entries, each a cell and its gaps
+abbrev pub coverAt : List ℕ → Parsed (List (ℕ × List Gap))
+coverAt s = countAt 0 256 s 0 ⨟ λ n p. entriesAt n s p ⨟ λ entries q. closeAt s q ⨟ λ _ r. Ok (entries, r)
+
+abbrev pub coverFile : List ℕ → Result (List (ℕ × List Gap)) Slip
+coverFile s = sized s (coverAt s)
+
 abbrev pub modelSeen : ModelFile → ℕ × List Cell
 modelSeen f = (f .first, vec-items (f .cells))
 
 abbrev pub trailSeen : TrailFile → ℕ × List Step
 trailSeen f = (f .scale, vec-items (f .steps))
+
+abbrev pub entrySeen : CoverEntry → ℕ × List Gap
+entrySeen e = (e .cell, vec-items (e .gaps))
+
+abbrev pub coverSeen : CoverFile → List (ℕ × List Gap)
+coverSeen f = map entrySeen (vec-items (f .entries))

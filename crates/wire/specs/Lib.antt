@@ -1,4 +1,5 @@
 pub mod CellFormat
+pub mod CoverFormat
 pub mod Faults
 pub mod Files
 pub mod Reading

@@ -2,13 +2,11 @@
 ghost use mathlib.Core.Path.{_≡_};
 ghost use Rattle.wire.specs.declared.fault.Fault.the-variants.{Refused as Turned, Memory};
 use slip::Slip;
-use slip::SlipDebug;
-use slip::SlipPartialEq;
 use std::alloc::AllocError;
 use std::alloc::Refused;
 
 // The file is refused, or there is no memory for what it holds, which says nothing of the file.
-#[derive(Clone, Copy, PartialEq, Eq, Debug)]
+#[derive(Clone, Copy)]
 pub enum Fault {
     Refused(Slip),
     Memory,

@@ -1,7 +1,8 @@
-// The model file and the trail file.
+// The model file, the trail file and the cover file.
 ghost use lib.Dec.{leb};
 ghost use lib.ListN.{length};
 ghost use mathlib.Core.Bool.{cond};
+ghost use mathlib.Core.List.{map};
 ghost use mathlib.Core.Path.{_≡_};
 ghost use Rattle.std.specs.Of.Vec.{vec-len, vec-items};
 ghost use Rattle.std.specs.Vec.{made};
@@ -9,8 +10,10 @@ ghost use Rattle.std.specs.declared.result.Result.the-variants.{Ok, Err};
 ghost use Rattle.slip.specs.declared.Refusal.the-variants.{Surplus};
 ghost use Rattle.wire.specs.Reading.{slip};
 ghost use Rattle.wire.specs.Faults.{Gives};
-ghost use Rattle.wire.specs.Files.{cellsAt, modelFile, modelSeen, added, stepsAt, trailFile, trailSeen};
+ghost use Rattle.wire.specs.Files.{cellsAt, modelFile, modelSeen, added, stepsAt, trailFile, trailSeen, entriesAt, entrySeen, coverFile, coverSeen};
 use crate::cell::Cell;
+use crate::cover::CoverEntry;
+use crate::cover::CoverFile;
 use crate::fault::Fault;
 use crate::fault::FaultFromRefused;
 use crate::fault::FaultFromSlip;
@@ -55,7 +58,7 @@ pub fn model_file(heap: Global, bytes: &[u8]) -> Result<ModelFile, Fault>
 {
     fits(bytes)?;
     let mut reader = Reader { bytes, at: 0 };
-    let count = reader.count()?;
+    let count = reader.count(1, 200)?;
     let first = reader.word()?;
     let cells = cells_of(heap, &mut reader, count)?;
     reader.close()?;
@@ -93,4 +96,27 @@ pub fn trail_file(heap: Global, bytes: &[u8]) -> Result<TrailFile, Fault>
     let most = bytes.len() - reader.at;
     let steps = steps_of(heap, &mut reader, most)?;
     Ok(TrailFile { scale, steps })
+}
+
+fn entries_of(heap: Global, reader: &mut Reader<'_>, count: u16) -> Result<Vec<CoverEntry>, Fault>
+    ensures reads { λ r. ⌜ Gives (λ v. (map entrySeen (vec-items v), now (reader .exit) .at)) r (entriesAt count (now (now (reader .entry) .bytes)) (now (reader .entry) .at)) ⌝ }
+    ensures same { λ r. ⌜ now (reader .exit) .bytes ≡ now (reader .entry) .bytes ⌝ }
+{
+    let mut entries = Vec::new(heap);
+    for _k in 0..count {
+        let entry = reader.entry(heap)?;
+        entries.push(entry)?;
+    }
+    Ok(entries)
+}
+
+pub fn cover_file(heap: Global, bytes: &[u8]) -> Result<CoverFile, Fault>
+    ensures { λ r. ⌜ Gives coverSeen r (coverFile (now (bytes .entry))) ⌝ }
+{
+    fits(bytes)?;
+    let mut reader = Reader { bytes, at: 0 };
+    let count = reader.count(0, 256)?;
+    let entries = entries_of(heap, &mut reader, count)?;
+    reader.close()?;
+    Ok(CoverFile { entries })
 }

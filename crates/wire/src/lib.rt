@@ -1,5 +1,6 @@
 // The files of a plan, byte by byte.
 pub mod cell;
+pub mod cover;
 pub mod fault;
 pub mod files;
 pub mod model;

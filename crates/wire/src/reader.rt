@@ -7,16 +7,26 @@ ghost use mathlib.Core.Path.{_≡_};
 ghost use Rattle.wire.specs.Reading.{Reads, byteAt, wordAt, longAt};
 ghost use Rattle.wire.specs.CellFormat.{bit, letterAt, eventAt, exitsAt, endOk, flagsOk, flagsAt, endAt, endsAt, dimOf, mapOk, mapAt, eventsAt, clocksAt, cellOf, cellAt};
 ghost use Rattle.std.specs.Vec.{made};
-ghost use Rattle.wire.specs.Files.{countAt, closeAt};
-ghost use Rattle.wire.specs.StepFormat.{waitAt, startAt, finishAt, stepAt, nextAt};
+ghost use Rattle.std.specs.Of.Vec.{vec-items};
+ghost use Rattle.wire.specs.Faults.{Gives};
+ghost use Rattle.wire.specs.CoverFormat.{signedAt, gapOf, gapAt, gapsAt, entryAt};
+ghost use Rattle.wire.specs.Files.{countAt, closeAt, entrySeen};
+ghost use Rattle.wire.specs.StepFormat.{stepAt, nextAt};
 use crate::cell::Cell;
 use crate::cell::End;
 use crate::cell::Ends;
 use crate::cell::Event;
 use crate::cell::Letter;
+use crate::cover::CoverEntry;
+use crate::fault::Fault;
+use crate::fault::FaultFromRefused;
+use crate::fault::FaultFromSlip;
 use crate::step::Step;
+use clocks::Gap;
+use clocks::Sign;
 use slip::Refusal;
 use slip::Slip;
+use std::alloc::Global;
 
 // The bytes of a file, and the place of the next field in them. A refused field leaves no promise on the place.
 #[derive(Drop)]
@@ -79,6 +89,23 @@ fn cell_of(map: u16, events: [Event; 4], exits: u8, ends: [Ends; 6]) -> Cell
         last: has_bit(map, 4),
         exits,
         ends,
+    }
+}
+
+// The gap that a word stands for: twice the constant, and 1 more for "at most".
+fn gap_of(first: u8, second: u8, word: i32) -> Gap
+    ensures { λ r. ⌜ r ≡ gapOf first second word ⌝ }
+{
+    let sign = if word.rem_euclid(2) == 0 {
+        Sign::Below
+    } else {
+        Sign::AtMost
+    };
+    Gap {
+        first,
+        second,
+        sign,
+        constant: word.div_euclid(2),
     }
 }
 
@@ -308,39 +335,24 @@ impl<'a> Reader<'a> {
         let place = self.at;
         let b = self.byte()?;
         match b as char {
-            'w' => self.wait(),
-            's' => self.start(),
-            'f' => self.finish(),
+            'w' => {
+                let ticks = self.long()?;
+                Ok(Step::Wait(ticks))
+            }
+            's' => {
+                let cell = self.word()?;
+                let event = self.byte()?;
+                Ok(Step::Start { cell, event })
+            }
+            'f' => {
+                let event = self.byte()?;
+                Ok(Step::Finish(event))
+            }
             _ => Err(Slip {
                 refusal: Refusal::OutOfRange,
                 place,
             }),
         }
-    }
-
-    pub(crate) fn wait(&mut self) -> Result<Step, Slip>
-        ensures reads { λ r. ⌜ Reads r (now (self .exit) .at) (waitAt (now (now (self .entry) .bytes)) (now (self .entry) .at)) ⌝ }
-        ensures same { λ r. ⌜ now (self .exit) .bytes ≡ now (self .entry) .bytes ⌝ }
-    {
-        let ticks = self.long()?;
-        Ok(Step::Wait(ticks))
-    }
-
-    pub(crate) fn start(&mut self) -> Result<Step, Slip>
-        ensures reads { λ r. ⌜ Reads r (now (self .exit) .at) (startAt (now (now (self .entry) .bytes)) (now (self .entry) .at)) ⌝ }
-        ensures same { λ r. ⌜ now (self .exit) .bytes ≡ now (self .entry) .bytes ⌝ }
-    {
-        let cell = self.word()?;
-        let event = self.byte()?;
-        Ok(Step::Start { cell, event })
-    }
-
-    pub(crate) fn finish(&mut self) -> Result<Step, Slip>
-        ensures reads { λ r. ⌜ Reads r (now (self .exit) .at) (finishAt (now (now (self .entry) .bytes)) (now (self .entry) .at)) ⌝ }
-        ensures same { λ r. ⌜ now (self .exit) .bytes ≡ now (self .entry) .bytes ⌝ }
-    {
-        let event = self.byte()?;
-        Ok(Step::Finish(event))
     }
 
     // The next step, or None at the end of the file.
@@ -356,16 +368,16 @@ impl<'a> Reader<'a> {
         }
     }
 
-    // The number of cells of a model.
-    pub(crate) fn count(&mut self) -> Result<u16, Slip>
-        ensures reads { λ r. ⌜ Reads r (now (self .exit) .at) (countAt (now (now (self .entry) .bytes)) (now (self .entry) .at)) ⌝ }
+    // A number of records.
+    pub(crate) fn count(&mut self, least: u16, most: u16) -> Result<u16, Slip>
+        ensures reads { λ r. ⌜ Reads r (now (self .exit) .at) (countAt least most (now (now (self .entry) .bytes)) (now (self .entry) .at)) ⌝ }
         ensures same { λ r. ⌜ now (self .exit) .bytes ≡ now (self .entry) .bytes ⌝ }
-        ensures some { λ r. ⌜ made r (λ n. 1 ≤ n) ⌝ }
-        ensures small { λ r. ⌜ made r (λ n. n ≤ 200) ⌝ }
+        ensures some { λ r. ⌜ made r (λ n. least ≤ n) ⌝ }
+        ensures small { λ r. ⌜ made r (λ n. n ≤ most) ⌝ }
     {
         let place = self.at;
         let n = self.word()?;
-        if 1 <= n && n <= 200 {
+        if least <= n && n <= most {
             Ok(n)
         } else {
             Err(Slip {
@@ -373,6 +385,46 @@ impl<'a> Reader<'a> {
                 place,
             })
         }
+    }
+
+    pub(crate) fn signed(&mut self) -> Result<i32, Slip>
+        ensures reads { λ r. ⌜ Reads r (now (self .exit) .at) (signedAt (now (now (self .entry) .bytes)) (now (self .entry) .at)) ⌝ }
+        ensures same { λ r. ⌜ now (self .exit) .bytes ≡ now (self .entry) .bytes ⌝ }
+    {
+        let word = self.word()?;
+        Ok(i32::from(word.cast_signed()))
+    }
+
+    pub(crate) fn gap(&mut self) -> Result<Gap, Slip>
+        ensures reads { λ r. ⌜ Reads r (now (self .exit) .at) (gapAt (now (now (self .entry) .bytes)) (now (self .entry) .at)) ⌝ }
+        ensures same { λ r. ⌜ now (self .exit) .bytes ≡ now (self .entry) .bytes ⌝ }
+    {
+        let first = self.byte()?;
+        let second = self.byte()?;
+        let word = self.signed()?;
+        Ok(gap_of(first, second, word))
+    }
+
+    pub(crate) fn gaps(&mut self, heap: Global, count: u8) -> Result<Vec<Gap>, Fault>
+        ensures reads { λ r. ⌜ Gives (λ v. (vec-items v, now (self .exit) .at)) r (gapsAt count (now (now (self .entry) .bytes)) (now (self .entry) .at)) ⌝ }
+        ensures same { λ r. ⌜ now (self .exit) .bytes ≡ now (self .entry) .bytes ⌝ }
+    {
+        let mut gaps = Vec::new(heap);
+        for _k in 0..count {
+            let gap = self.gap()?;
+            gaps.push(gap)?;
+        }
+        Ok(gaps)
+    }
+
+    pub(crate) fn entry(&mut self, heap: Global) -> Result<CoverEntry, Fault>
+        ensures reads { λ r. ⌜ Gives (λ e. (entrySeen e, now (self .exit) .at)) r (entryAt (now (now (self .entry) .bytes)) (now (self .entry) .at)) ⌝ }
+        ensures same { λ r. ⌜ now (self .exit) .bytes ≡ now (self .entry) .bytes ⌝ }
+    {
+        let cell = self.word()?;
+        let count = self.byte()?;
+        let gaps = self.gaps(heap, count)?;
+        Ok(CoverEntry { cell, gaps })
     }
 
     // Refuses bytes after the last record.

@@ -5,9 +5,10 @@ use mathlib.Core.List.{List, [], _∷_, _++_, append-nil, append-assoc}
 use mathlib.Core.Path.{_≡_, refl, sym, ap, subst, _∙_}
 use native.Mathlib.Omega.{arith}
 use lib.ListN.{length, getD, drop, take, length-drop}
-use Rattle.std.proofs.shelf.Lists.{getD-drop, drop-drop, take-more, joined-more}
+use Rattle.std.proofs.shelf.Elements.{all-getD}
+use Rattle.std.proofs.shelf.Lists.{getD-drop, drop-drop, take-more, take-all, joined-more}
 use Rattle.std.proofs.shelf.Tests.{le-leb}
-use Rattle.std.specs.shelf.Lists.{joined}
+use Rattle.std.specs.shelf.Lists.{All, joined}
 use Rattle.std.specs.declared.result.Result.the-variants.{Ok}
 use Rattle.slip.specs.declared.Refusal.{Refusal}
 use Rattle.slip.specs.declared.Refusal.the-variants.{Truncated}
@@ -74,6 +75,19 @@ module _ (s : List ℕ) where
       (back-then (many put d (total 0) n s) _ (bytes n) (code x ++ []) (total n) (put (total n) n x)
       (many-back put d code item bytes total none n (λ k l. each k (omega arith)) (λ k l. more k (omega arith)) (λ k l. next k (omega arith)))
       (back-then (d n s) _ (code x) [] x (put (total n) n x) (each n lt) (back-ok (put (total n) n x))))
+
+  -- readings in a row into a list
+  pub list-back : {A : Type 0} (d : List ℕ → ℕ → Parsed A) (code : A → List ℕ) (P : A → Type 0) (blank : A)
+      → ((x : A) → P x → Back s (d s) (code x) x)
+      → (xs : List A) → All P xs → Back s (many (λ ys _ y. ys ++ y ∷ []) (λ _. d) [] (length xs) s) (joined code xs) xs
+  list-back d code P blank each xs fit =
+      let whole = take-all (length xs) xs (omega arith) in
+      back-same _ _ _ _ _ (ap (joined code) whole) whole
+      (many-back (λ ys _ y. ys ++ y ∷ []) (λ _. d) code (λ k. getD xs k blank) (λ k. joined code (take k xs)) (λ k. take k xs)
+      refl (length xs)
+      (λ k lt. each (getD xs k blank) (all-getD P xs k blank lt fit))
+      (λ k lt. joined-more-at code xs k blank lt)
+      (λ k lt. sym (take-more-at xs k blank lt)))
 
   at-drop : (p b : ℕ) (t : List ℕ) → drop p s ≡ b ∷ t → (p + 1 ≤ length s) × (getD s p 0 ≡ b) × (drop (p + 1) s ≡ t)
   at-drop p b t h =

@@ -7,7 +7,6 @@ use mathlib.Core.Path.{_≡_, refl, sym, ap, subst, _∙_}
 use native.Mathlib.Omega.{arith}
 use lib.Dec.{leb, lit≤}
 use lib.ListN.{length, getD, take, length-append, length-drop}
-use Rattle.std.proofs.shelf.Elements.{all-getD}
 use Rattle.std.proofs.shelf.Lists.{take-all}
 use Rattle.std.proofs.shelf.Tests.{le-leb, lt-ltb, le-ltb, eq-eqb, cases-eq}
 use Rattle.std.proofs.shelf.Ways.{tells}
@@ -24,18 +23,18 @@ use Rattle.wire.specs.StepFormat.{stepAt, nextAt}
 use Rattle.wire.specs.Files.{value, sized, cellsAt, modelAt, added, stepsAt, trailAt}
 use Rattle.wire_law.specs.Codes.{wordCode, longCode, cellCode, modelCode, stepCode, trailCode}
 use Rattle.wire_law.specs.Laws.{Cell-fits, Model-read, Trail-read}
-use Rattle.wire_law.proofs.Back.{Rest, Back, back-ok, back-from, back-then, back-kept, back-same, many-back, take-more-at, joined-more-at, back-byte, back-word, back-long}
+use Rattle.wire_law.proofs.Back.{Rest, Back, back-ok, back-from, back-then, back-kept, back-same, many-back, list-back, take-more-at, joined-more-at, back-byte, back-word, back-long}
 use Rattle.wire_law.proofs.CellBack.{back-cell}
 use Rattle.wire_law.proofs.FileSpelling.{step-long, nextCode}
 use Rattle.wire_law.proofs.Sizes.{model-short, trail-bytes}
 
 -- a file that is not too long
-sized-back : {A : Type 0} (s : List ℕ) (d : Parsed A) (v : A) (q : ℕ) → length s ≤ 60000 → d ≡ Ok (v, q) → sized s d ≡ Ok v
+pub sized-back : {A : Type 0} (s : List ℕ) (d : Parsed A) (v : A) (q : ℕ) → length s ≤ 60000 → d ≡ Ok (v, q) → sized s d ≡ Ok v
 sized-back {A} s d v q le e =
     ap (λ (b : Bool). cond b (value d) (Err (slip Surplus 60000))) (le-leb (length s) 60000 le) ∙ ap (λ (x : Parsed A). value x) e
 
 -- at the end
-ended : (s : List ℕ) (p : ℕ) → Rest s p [] → p ≡ length s
+pub ended : (s : List ℕ) (p : ℕ) → Rest s p [] → p ≡ length s
 ended s p h = let l = sym (length-drop p s) ∙ ap length (h .0) in omega (arith, h .1)
 
 joined-long : (steps : List Step) → length steps ≤ length (joined stepCode steps)
@@ -45,14 +44,7 @@ joined-long (t ∷ ts) = omega (arith, length-append (stepCode t) (joined stepCo
 module _ (s : List ℕ) where
   back-cells : (first : Cell) (cells : List Cell) → All Cell-fits cells → Back s (cellsAt (length cells) s) (joined cellCode cells) cells
   unfolding cellsAt
-  back-cells first cells fit =
-      let whole = take-all (length cells) cells (omega arith) in
-      back-same s _ _ _ _ _ (ap (joined cellCode) whole) whole
-      (many-back s (λ cs _ c. cs ++ c ∷ []) (λ _. cellAt) cellCode (λ k. getD cells k first) (λ k. joined cellCode (take k cells)) (λ k. take k cells)
-      refl (length cells)
-      (λ k lt. back-cell s (getD cells k first) (all-getD Cell-fits cells k first lt fit))
-      (λ k lt. joined-more-at cellCode cells k first lt)
-      (λ k lt. sym (take-more-at cells k first lt)))
+  back-cells first cells fit = list-back s cellAt cellCode Cell-fits first (back-cell s) cells fit
 
   back-model : (first : ℕ) (c : Cell) (cells : List Cell) → length (c ∷ cells) ≤ 200 → All Cell-fits (c ∷ cells)
       → Rest s 0 (modelCode first (c ∷ cells)) → (q : ℕ) × (modelAt s ≡ Ok ((first, c ∷ cells), q))

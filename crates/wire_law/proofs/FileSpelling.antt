@@ -7,7 +7,7 @@ use mathlib.Core.Path.{_≡_, refl, sym, ap, subst, _∙_}
 use native.Mathlib.Omega.{arith}
 use lib.Dec.{leb, ltb, eqb}
 use lib.ListN.{length, drop, length-append, length-drop}
-use Rattle.std.proofs.shelf.Lists.{joined-more, drop-all, length-push}
+use Rattle.std.proofs.shelf.Lists.{joined-more, drop-all}
 use Rattle.std.proofs.shelf.Tests.{eqb-true, ltb-true, ltb-false}
 use Rattle.std.specs.shelf.Lists.{joined}
 use Rattle.std.specs.declared.option.Option.{Option}
@@ -23,7 +23,7 @@ use Rattle.wire.specs.StepFormat.{waitAt, startAt, finishAt, stepAt, nextAt}
 use Rattle.wire.specs.Files.{value, sized, countAt, cellsAt, closeAt, modelAt, added, stepsAt, trailAt}
 use Rattle.wire_law.specs.Codes.{wordCode, longCode, cellCode, modelCode, stepCode, trailCode}
 use Rattle.wire_law.specs.Laws.{Bytes, Model-spelt, Trail-spelt}
-use Rattle.wire_law.proofs.Spelling.{Spells, join, through, landed, passed, many-keeps, byte-spells, word-spells, long-spells}
+use Rattle.wire_law.proofs.Spelling.{Spells, join, through, landed, passed, many-keeps, list-row, byte-spells, word-spells, long-spells}
 use Rattle.wire_law.proofs.CellSpelling.{cell-spells}
 
 pub sized-ok : {A P : Type 0} (s : List ℕ) (d : Parsed A) (y : A) → sized s d ≡ Ok y → ((q : ℕ) → d ≡ Ok (y, q) → P) → P
@@ -38,34 +38,24 @@ sized-ok {A} {P} s d y e k =
     [ true ↦ λ f. had d f k | false ↦ λ f. let n : _≡_ {A = ℕ} 0 1 = cc in absurd (omega arith) ] in
     go (leb (length s) 60000) e
 
-joined-push : {A : Type 0} (code : A → List ℕ) (xs : List A) (x : A) → joined code xs ++ code x ≡ joined code (xs ++ x ∷ [])
-joined-push code xs x = joined-more code [] xs x
-
 -- what was read up to the end is all
-all-spelt : (s : List ℕ) (q : ℕ) (bs : List ℕ) → length s ≤ q → Spells s 0 q bs → s ≡ bs
+pub all-spelt : (s : List ℕ) (q : ℕ) (bs : List ℕ) → length s ≤ q → Spells s 0 q bs → s ≡ bs
 all-spelt s q bs le e = e ∙ (ap (λ (t : List ℕ). bs ++ t) (drop-all q s le) ∙ append-nil bs)
 
 module _ (s : List ℕ) (small : Bytes s) where
-  count-spells : (p n q : ℕ) → countAt s p ≡ Ok (n, q) → Spells s p q (wordCode n)
-  count-spells p n q h =
+  pub count-spells : (least most p n q : ℕ) → countAt least most s p ≡ Ok (n, q) → Spells s p q (wordCode n)
+  count-spells least most p n q h =
       through (wordAt s p) _ n q h (λ v r a h. passed (λ (x t : ℕ). Spells s p t (wordCode x)) _ _ _ v n r q h (λ _. word-spells s small p v r a))
 
   cells-spell : (n p : ℕ) (cells : List Cell) (q : ℕ) → cellsAt n s p ≡ Ok (cells, q) → Spells s p q (joined cellCode cells) × (length cells ≡ n)
   unfolding cellsAt
   cells-spell n p cells q e =
-      many-keeps (λ cs _ c. cs ++ c ∷ []) (λ _. cellAt) [] s p
-      (λ k cs t. Spells s p t (joined cellCode cs) × (length cs ≡ k))
-      (refl, refl) n
-      (λ k cs t r c lt inv h. (
-        subst (λ (l : List ℕ). Spells s p r l) (joined-push cellCode cs c) (join s p t r (joined cellCode cs) (cellCode c) (inv .0) (cell-spells s small t c r h)),
-        omega (arith, inv .1, length-push cs c),
-      ))
-      cells q e
+      let got = list-row s cellAt cellCode (λ _. Unit {0}) (λ q r c h. (cell-spells s small q c r h, tt)) n p cells q e in (got .0, got .1)
 
 pub model-spelt : Model-spelt
 model-spelt s first cells small e =
     sized-ok s (modelAt s) (first, cells) e (λ q h.
-    through (countAt s 0) _ (first, cells) q h (λ n r a h.
+    through (countAt 1 200 s 0) _ (first, cells) q h (λ n r a h.
     through (wordAt s r) _ (first, cells) q h (λ f t b h.
     through (cellsAt n s t) _ (first, cells) q h (λ cs u c h.
     through (closeAt s u) _ (first, cells) q h (λ x v d h.
@@ -73,7 +63,7 @@ model-spelt s first cells small e =
     (passed (λ (y : Unit {0}) (w : ℕ). s ≡ modelCode f cs) _ _ _ tt x u v d (λ ended.
     let end = eqb-true u (length s) ended in
     let c′ = cells-spell s small n t cs u c in
-    let n′ : Spells s 0 r (wordCode (length cs)) = subst (λ (m : ℕ). Spells s 0 r (wordCode m)) (sym (c′ .1)) (count-spells s small 0 n r a) in
+    let n′ : Spells s 0 r (wordCode (length cs)) = subst (λ (m : ℕ). Spells s 0 r (wordCode m)) (sym (c′ .1)) (count-spells s small 1 200 0 n r a) in
     all-spelt s u (modelCode f cs) (omega arith)
     (join s 0 r u (wordCode (length cs)) (wordCode f ++ joined cellCode cs) n′
     (join s r t u (wordCode f) (joined cellCode cs) (word-spells s small r f t b) (c′ .0))))))))))
@@ -95,7 +85,7 @@ nextCode (Some t) = stepCode t
 nextCode None = []
 
 joined-added : (steps : List Step) (o : Option Step) → joined stepCode steps ++ nextCode o ≡ joined stepCode (added steps o)
-joined-added steps (Some t) = joined-push stepCode steps t
+joined-added steps (Some t) = joined-more stepCode [] steps t
 joined-added steps None = append-nil (joined stepCode steps)
 
 module _ (s : List ℕ) (small : Bytes s) where

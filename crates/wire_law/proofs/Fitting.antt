@@ -1,13 +1,13 @@
 -- What is read fits a file.
 use Prim.Native.Nat.{ℕ, zero, suc, _+_, _-_, _<_, _≤_}
 use mathlib.Core.Bool.{Bool, true, false}
-use mathlib.Core.List.{List, [], _∷_, _++_}
-use mathlib.Core.Path.{_≡_, refl, sym, ap, _∙_}
+use mathlib.Core.List.{List, []}
+use mathlib.Core.Path.{_≡_, sym, ap, _∙_}
 use native.Mathlib.Omega.{arith}
 use lib.Dec.{leb, ltb, eqb, lit<, lit≤}
 use lib.ListN.{length, getD, drop, set, replicate, length-set, length-replicate}
 use Rattle.std.proofs.shelf.Elements.{all-getD, all-push, all-set}
-use Rattle.std.proofs.shelf.Lists.{drop-drop, drop-set-lt, length-push}
+use Rattle.std.proofs.shelf.Lists.{drop-drop, drop-set-lt}
 use Rattle.std.proofs.shelf.Tests.{leb-true, and-parts}
 use Rattle.std.specs.shelf.Lists.{All}
 use Rattle.std.specs.declared.option.Option.{Option}
@@ -23,7 +23,9 @@ use Rattle.wire.specs.CellFormat.{bit, letterAt, noEvent, eventAt, eventsAt, ex
 use Rattle.wire.specs.StepFormat.{stepAt, nextAt}
 use Rattle.wire.specs.Files.{countAt, cellsAt, closeAt, modelAt, added, stepsAt, trailAt}
 use Rattle.wire_law.specs.Laws.{Bytes, End-fits, Ends-fit, Event-fits, Cell-fits, Step-fits, Model-fits, Trail-fits}
-use Rattle.wire_law.proofs.Spelling.{through, landed, passed, many-keeps}
+use Rattle.wire_law.specs.Codes.{cellCode}
+use Rattle.wire_law.proofs.Spelling.{through, landed, passed, many-keeps, list-row}
+use Rattle.wire_law.proofs.CellSpelling.{cell-spells}
 use Rattle.wire_law.proofs.FileSpelling.{chosen, sized-ok}
 
 -- readings in a row into an array fill it from the front
@@ -53,10 +55,10 @@ module _ (s : List ℕ) (small : Bytes s) where
   below : (i : ℕ) → i < length s → getD s i 0 < 256
   below i lt = all-getD (λ b. b < 256) s i 0 lt small
 
-  byte-fits : (p v q : ℕ) → byteAt s p ≡ Ok (v, q) → v < 256
+  pub byte-fits : (p v q : ℕ) → byteAt s p ≡ Ok (v, q) → v < 256
   byte-fits p v q e = passed (λ (w t : ℕ). w < 256) _ _ _ _ _ _ _ e (λ h. let l = leb-true (p + 1) (length s) h in below p (omega arith))
 
-  word-fits : (p v q : ℕ) → wordAt s p ≡ Ok (v, q) → v < 65536
+  pub word-fits : (p v q : ℕ) → wordAt s p ≡ Ok (v, q) → v < 65536
   word-fits p v q e =
       passed (λ (w t : ℕ). w < 65536) _ _ _ _ _ _ _ e
       (λ h. let l = leb-true (p + 2) (length s) h in
@@ -131,19 +133,17 @@ module _ (s : List ℕ) (small : Bytes s) where
       landed (λ (y : Option Step) (w : ℕ). All Step-fits (added steps y)) _ o u q g (all-push Step-fits steps t fit (step-fits p t u a))))
       (λ e g. landed (λ (y : Option Step) (w : ℕ). All Step-fits (added steps y)) _ o p q g fit)
 
-  count-fits : (p n q : ℕ) → countAt s p ≡ Ok (n, q) → (1 ≤ n) × (n ≤ 200)
-  count-fits p n q h =
+  pub count-fits : (least most p n q : ℕ) → countAt least most s p ≡ Ok (n, q) → (least ≤ n) × (n ≤ most)
+  count-fits least most p n q h =
       through (wordAt s p) _ n q h (λ v r a h.
-      passed (λ (x t : ℕ). (1 ≤ x) × (x ≤ 200)) _ _ _ v n r q h (λ ok.
-      let parts = and-parts (leb 1 v) (leb v 200) ok in
-      (leb-true 1 v (parts .0), leb-true v 200 (parts .1))))
+      passed (λ (x t : ℕ). (least ≤ x) × (x ≤ most)) _ _ _ v n r q h (λ ok.
+      let parts = and-parts (leb least v) (leb v most) ok in
+      (leb-true least v (parts .0), leb-true v most (parts .1))))
 
   cells-fit : (n p : ℕ) (cells : List Cell) (q : ℕ) → cellsAt n s p ≡ Ok (cells, q) → (length cells ≡ n) × All Cell-fits cells
   unfolding cellsAt
   cells-fit n p cells q e =
-      many-keeps (λ cs _ c. cs ++ c ∷ []) (λ _. cellAt) [] s p (λ k cs t. (length cs ≡ k) × All Cell-fits cs) (refl, tt) n
-      (λ k cs t r c lt inv h. (omega (arith, inv .0, length-push cs c), all-push Cell-fits cs c (inv .1) (cell-fits t c r h)))
-      cells q e
+      let got = list-row s cellAt cellCode Cell-fits (λ q r c h. (cell-spells s small q c r h, cell-fits q c r h)) n p cells q e in (got .1, got .2)
 
   steps-fit : (n p : ℕ) (steps : List Step) (q : ℕ) → stepsAt n s p ≡ Ok (steps, q) → All Step-fits steps
   unfolding stepsAt
@@ -155,12 +155,12 @@ module _ (s : List ℕ) (small : Bytes s) where
 pub model-fits : Model-fits
 model-fits s first cells small e =
     sized-ok s (modelAt s) (first, cells) e (λ q h.
-    through (countAt s 0) _ (first, cells) q h (λ n r a h.
+    through (countAt 1 200 s 0) _ (first, cells) q h (λ n r a h.
     through (wordAt s r) _ (first, cells) q h (λ f t b h.
     through (cellsAt n s t) _ (first, cells) q h (λ cs u c h.
     through (closeAt s u) _ (first, cells) q h (λ x v d h.
     landed (λ (y : ℕ × List Cell) (w : ℕ). (y .0 < 65536) × (1 ≤ length (y .1)) × (length (y .1) ≤ 200) × All Cell-fits (y .1)) (f, cs) (first, cells) v q h
-    (let n′ = count-fits s small 0 n r a in
+    (let n′ = count-fits s small 1 200 0 n r a in
     let c′ = cells-fit s small n t cs u c in
     (word-fits s small r f t b, omega (arith, n′ .0, c′ .0), omega (arith, n′ .1, c′ .0), c′ .1)))))))
 

@@ -1,6 +1,7 @@
 pub mod Back
 pub mod CellBack
 pub mod CellSpelling
+pub mod Cover
 pub mod Examples
 pub mod FileBack
 pub mod FileSpelling

@@ -29,21 +29,21 @@ pub record Short (n : ℕ) (bs : List ℕ) : Type 0 where
   pub bytes : Bytes bs
   pub most : length bs ≤ n
 
-both : {m n : ℕ} {a b : List ℕ} → Short m a → Short n b → Short (m + n) (a ++ b)
+pub both : {m n : ℕ} {a b : List ℕ} → Short m a → Short n b → Short (m + n) (a ++ b)
 both {m} {n} {a} {b} x y =
     record { bytes = all-append (λ n. n < 256) a b (x .bytes) (y .bytes); most = omega (arith, length-append a b) }
 
-joined-short : {A : Type 0} (P : A → Type 0) (code : A → List ℕ) (n : ℕ) → ((x : A) → P x → Short n (code x))
+pub joined-short : {A : Type 0} (P : A → Type 0) (code : A → List ℕ) (n : ℕ) → ((x : A) → P x → Short n (code x))
     → (xs : List A) → All P xs → Short (n * length xs) (joined code xs)
 joined-short P code n each [] fit = record { bytes = tt; most = omega arith }
 joined-short P code n each (x ∷ xs) fit =
     subst (λ (k : ℕ). Short k (joined code (x ∷ xs))) (omega (arith, mul-suc n (length xs)))
     (both (each x (fit .0)) (joined-short P code n each xs (fit .1)))
 
-one : {b : ℕ} → b < 256 → Short 1 (b ∷ [])
+pub one : {b : ℕ} → b < 256 → Short 1 (b ∷ [])
 one h = record { bytes = (h, tt); most = lit≤ tt }
 
-word-short : (n : ℕ) → n < 65536 → Short 2 (wordCode n)
+pub word-short : (n : ℕ) → n < 65536 → Short 2 (wordCode n)
 word-short n h = record { bytes = (omega arith, (omega arith, tt)); most = lit≤ tt }
 
 letter-byte : (l : Letter) → letterCode l < 256

@@ -6,9 +6,9 @@ use mathlib.Core.Logic.{inl, inr}
 use mathlib.Core.Path.{_≡_, refl, sym, ap, subst, _∙_}
 use native.Mathlib.Omega.{arith}
 use lib.ListN.{length, getD, drop, take, set, replicate, length-set, length-replicate}
-use Rattle.std.specs.shelf.Lists.{joined}
-use Rattle.std.proofs.shelf.Elements.{all-getD}
-use Rattle.std.proofs.shelf.Lists.{drop-more, take-more-set, joined-more, getD-set-same, getD-set-other}
+use Rattle.std.specs.shelf.Lists.{All, joined}
+use Rattle.std.proofs.shelf.Elements.{all-getD, all-push}
+use Rattle.std.proofs.shelf.Lists.{drop-more, take-more-set, joined-more, length-push, getD-set-same, getD-set-other}
 use Rattle.std.proofs.shelf.Tests.{leb-true, cases-eq}
 use Rattle.std.specs.declared.result.Result.the-variants.{Ok, Err}
 use Rattle.slip.specs.declared.Refusal.{Refusal}
@@ -77,6 +77,23 @@ set-row {A} s d code P each blank n m le p xs q e =
             | inl same ↦ subst (λ (j : ℕ). P j (getD (set ys k x) j blank)) (sym same) (subst (P k) (sym (getD-set-same ys k x blank in′)) (got .1))
             | inr other ↦ subst (P i) (sym (getD-set-other ys k i x blank other)) (inv .2 i (omega (arith, other)))
           ],
+    ))
+    xs q e
+
+-- readings in a row into a list: the bytes of all, how many there are, and what each is
+pub list-row : {A : Type 0} (s : List ℕ) (d : List ℕ → ℕ → Parsed A) (code : A → List ℕ) (P : A → Type 0)
+    → ((q r : ℕ) (x : A) → d s q ≡ Ok (x, r) → Spells s q r (code x) × P x)
+    → (n p : ℕ) (xs : List A) (q : ℕ) → many (λ ys _ y. ys ++ y ∷ []) (λ _. d) [] n s p ≡ Ok (xs, q)
+    → Spells s p q (joined code xs) × (length xs ≡ n) × All P xs
+list-row s d code P each n p xs q e =
+    many-keeps (λ ys _ y. ys ++ y ∷ []) (λ _. d) [] s p
+    (λ k ys t. Spells s p t (joined code ys) × (length ys ≡ k) × All P ys)
+    (refl, refl, tt) n
+    (λ k ys t r y lt inv h.
+    let got = each t r y h in (
+      subst (λ (l : List ℕ). Spells s p r l) (joined-more code [] ys y) (join s p t r (joined code ys) (code y) (inv .0) (got .0)),
+      omega (arith, inv .1, length-push ys y),
+      all-push P ys y (inv .2) (got .1),
     ))
     xs q e
 

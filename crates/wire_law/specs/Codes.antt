@@ -1,12 +1,16 @@
--- The bytes of a model and of a trail.
+-- The bytes of a model, of a trail and of a cover.
 use Prim.Native.Nat.{ℕ, _+_, _-_, _*_, _/_, _%_, _^_}
 use mathlib.Core.Bool.{Bool, true, false, cond, not}
 use mathlib.Core.List.{List, [], _∷_, _++_}
 use lib.Dec.{eqb}
 use lib.ListN.{length, take}
+use lib.IntN.{ℤ, pos, negsuc, _+ℤ_}
 use Rattle.std.specs.shelf.Lists.{joined}
 use Rattle.std.specs.declared.option.Option.{Option}
 use Rattle.std.specs.declared.option.Option.the-variants.{Some, None}
+use Rattle.clocks.specs.declared.Gap.{Gap}
+use Rattle.clocks.specs.declared.Sign.{Sign}
+use Rattle.clocks.specs.declared.Sign.the-variants.{Below, AtMost}
 use Rattle.wire.specs.declared.cell.Letter.{Letter}
 use Rattle.wire.specs.declared.cell.Letter.the-variants.{Barrier, Display, Read, Write, Sensor}
 use Rattle.wire.specs.declared.cell.Event.{Event}
@@ -82,3 +86,22 @@ stepCode (Finish k) = 102 ∷ k ∷ []
 
 abbrev pub trailCode : ℕ → List Step → List ℕ
 trailCode scale steps = wordCode scale ++ joined stepCode steps
+
+-- two's complement
+abbrev pub signedCode : ℤ → List ℕ
+signedCode (pos n) = wordCode n
+signedCode (negsuc n) = wordCode (65535 - n)
+
+-- twice the constant, and 1 more for "at most"
+abbrev pub gapWord : Sign → ℤ → ℤ
+gapWord Below c = c +ℤ c
+gapWord AtMost c = c +ℤ c +ℤ pos 1
+
+abbrev pub gapCode : Gap → List ℕ
+gapCode g = g .first ∷ g .second ∷ signedCode (gapWord (g .sign) (g .constant))
+
+abbrev pub entryCode : ℕ × List Gap → List ℕ
+entryCode e = wordCode (e .0) ++ (length (e .1) ∷ joined gapCode (e .1))
+
+abbrev pub coverCode : List (ℕ × List Gap) → List ℕ
+coverCode entries = wordCode (length entries) ++ joined entryCode entries

@@ -1,4 +1,4 @@
-use Prim.Native.Nat.{ℕ}
+use Prim.Native.Nat.{ℕ, _+_}
 use mathlib.Core.List.{List, [], _∷_, _++_}
 use mathlib.Core.Path.{refl, ap, _∙_}
 use borrow.Author.Needs.{needs}
@@ -22,7 +22,7 @@ loop-k-again c =
     let h = c .in-Continue-cell .ensures tt in
     let i = c .loop-k .inv in
     let v = c .in-Continue-push .ensures tt in
-    (rw (v .items) (many-more push (λ _. cellAt) _ _ _ _ _ _ _ _ _ (ap now (i .1)) (i .0) (h .reads)), h .same ∙ i .1, search needs)
+    (rw (v .items) (many-more push (λ _. cellAt) _ _ _ _ _ _ _ _ _ (ap now (i .1)) (i .0) (h .reads)), h .same ∙ i .1, v .len ∙ ap (λ (n : ℕ). n + 1) (i .2))
 
 pub returns-in-Break-cell : need.returns-in-Break-cell
 unfolding cellsAt

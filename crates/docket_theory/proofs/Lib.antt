@@ -1,0 +1,12 @@
+pub mod Cutting
+pub mod Entries
+pub mod Keeping
+pub mod Marks
+pub mod Orderly
+pub mod Outgoing
+pub mod Promised
+pub mod Reasons
+pub mod Rows
+pub mod Shutting
+pub mod Soundness
+pub mod Walking

@@ -1,0 +1,5 @@
+pub mod Docket
+pub mod Images
+pub mod Log
+pub mod Promise
+pub mod Worlds

@@ -1,0 +1,3 @@
+mod Chained
+mod Lodging
+pub mod Shut

@@ -1,0 +1,5 @@
+pub mod Bounds
+pub mod Closing
+pub mod Limits
+pub mod Signs
+pub mod Weights

@@ -1,0 +1,16 @@
+pub mod Counts
+pub mod Delays
+pub mod Exact
+pub mod Forms
+pub mod Found
+pub mod GapLimits
+pub mod Images
+pub mod Kept
+pub mod Larges
+pub mod Levels
+pub mod LimitLaws
+pub mod Moves
+pub mod Obeyed
+pub mod Points
+pub mod Resets
+pub mod Tables

@@ -1,0 +1,5 @@
+pub mod Exact
+pub mod Gaps
+pub mod Matrices
+pub mod Readings
+pub mod Sets
