@@ -28,7 +28,7 @@ pub fn is_good_gap(gap: Gap) -> bool
 }
 
 // One more weight, from i to j.
-pub fn cut<W: Weight>(m: &mut [W], i: usize, j: usize, weight: W)
+fn cut<W: Weight>(m: &mut [W], i: usize, j: usize, weight: W)
     requires long { ⌜ length (now m) ≡ 49 ⌝ }
     requires row { ⌜ i < 7 ⌝ }
     requires column { ⌜ j < 7 ⌝ }
@@ -77,7 +77,7 @@ fn home(mask: u8, i: usize) -> usize
 }
 
 // The clocks of a mask are put to zero in a closed form.
-pub fn reset<W: Weight>(from: &[W], mask: u8, to: &mut [W])
+fn reset<W: Weight>(from: &[W], mask: u8, to: &mut [W])
     requires source { ⌜ length (now from) ≡ 49 ⌝ }
     requires long { ⌜ length (now to) ≡ 49 ⌝ }
     ensures { λ _. ⌜ map value (now (to .exit)) ≡ tabled (λ i j. cell unbounded (map value (now (from .entry))) (homeOf (inMask mask) i) (homeOf (inMask mask) j)) ⌝ }
@@ -88,7 +88,7 @@ pub fn reset<W: Weight>(from: &[W], mask: u8, to: &mut [W])
 }
 
 // Time goes on from a closed form: the clocks lose their upper bounds.
-pub fn delay<W: Weight>(m: &mut [W], free: W)
+fn delay<W: Weight>(m: &mut [W], free: W)
     requires long { ⌜ length (now m) ≡ 49 ⌝ }
     requires lets { ⌜ value free ≡ unbounded ⌝ }
     ensures { λ _. ⌜ map value (now (m .exit)) ≡ tabled (λ i j. cond (not (eqb i 0) && eqb j 0) unbounded (cell unbounded (map value (now (m .entry))) i j)) ⌝ }
@@ -99,7 +99,7 @@ pub fn delay<W: Weight>(m: &mut [W], free: W)
 }
 
 // Whether no weight exceeds the other's.
-pub fn is_beneath<W: Weight>(low: &[W], high: &[W]) -> bool
+fn is_beneath<W: Weight>(low: &[W], high: &[W]) -> bool
     requires low { ⌜ length (now low) ≡ 49 ⌝ }
     requires high { ⌜ length (now high) ≡ 49 ⌝ }
     ensures { λ r. ⌜ r ≡ beneathAll leb plus neutral unbounded hopeless (map value (now (low .entry))) (map value (now (high .entry))) ⌝ }

@@ -71,9 +71,9 @@ pub impl ClockSet for OrderSet as OrderClockSet {
     ghost calls = { orderCalls };
 
     fn all() -> OrderSet {
-        let mut m = [OrderSign::Free; 49];
-        tighten(&mut m);
-        OrderSet { signs: m }
+        let mut signs = [OrderSign::Free; 49];
+        tighten(&mut signs);
+        OrderSet { signs }
     }
 
     fn zero() -> OrderSet

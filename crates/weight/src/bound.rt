@@ -10,6 +10,7 @@ use crate::Weight;
 // A limit on a difference in one number: twice the constant, plus one for "at most"; the greatest number is no limit.
 // So the order of bounds is the order of their numbers.
 #[derive(Clone, Copy)]
+#[repr(C)]
 pub struct Bound {
     pub code: i32,
 }

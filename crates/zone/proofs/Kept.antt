@@ -3,7 +3,7 @@ use mathlib.Core.Path.{_≡_, refl, sym, _∙_, ap}
 use mathlib.Core.Bool.{Bool, true}
 use mathlib.Core.List.{List, map}
 use native.Mathlib.Omega.{arith}
-use Prim.Native.Nat.{ℕ, _+_, _*_, _<_, _≤_}
+use Prim.Native.Nat.{ℕ, _+_, _*_, _/_, _%_, _<_, _≤_}
 use lib.Dec.{leb}
 use lib.IntN.{pos}
 use lib.ListN.{getD, length}
@@ -53,3 +53,12 @@ read-room z i j hi hj =
     let b = getD (z .bounds) (7 * i + j) (record { code = pos 0 }) in
     let small = cond-both (leb (limitSize (limitOf b)) 4000000) (limitOf b) free (λ l. limitSize l ≤ 4194304) (λ e. omega (arith, leb-true (limitSize (limitOf b)) 4000000 e)) (λ e. omega arith) in
     rw (tabled-cell free (λ i j. readLimit (getD (z .bounds) (7 * i + j) (record { code = pos 0 }))) i j hi hj) small
+
+-- a stored bound, by its place in the list
+pub read-at : (z : Zone) (p : ℕ) → p < 49 → readLimit (getD (z .bounds) p (record { code = pos 0 })) ≡ getD (limitList z) p free
+read-at z p h =
+    let whole : 7 * (p / 7) + p % 7 ≡ p = omega arith in
+    let row : p / 7 < 7 = omega arith in
+    let column : p % 7 < 7 = omega arith in
+    let f : ℕ → Limit = λ q. readLimit (getD (z .bounds) q (record { code = pos 0 })) in
+    sym (ap f whole) ∙ sym (tabled-cell free (λ i j. f (7 * i + j)) (p / 7) (p % 7) row column) ∙ ap (λ q. getD (limitList z) q free) whole

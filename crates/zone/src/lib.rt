@@ -3,13 +3,14 @@
 ghost use mathlib.Core.Path.{_≡_};
 ghost use mathlib.Core.List.{map};
 ghost use Prim.Native.Nat.{_^_, _≤_};
-ghost use lib.IntN.{natAbs};
+ghost use lib.IntN.{natAbs, pos};
 ghost use lib.ListN.{length};
 ghost use Rattle.clockset.specs.Laws.{badArgument};
 ghost use Rattle.weight.specs.Bounds.{limitOf, limitSize};
 ghost use Rattle.weight.specs.Closing.{Within};
-ghost use Rattle.weight.specs.Limits.{free};
+ghost use Rattle.weight.specs.Limits.{under, upTo, free, limitLeb, limitPlus};
 ghost use Rattle.zone_theory.specs.Gaps.{gapLimit};
+ghost use Rattle.zone_theory.specs.Sets.{beneathAll};
 ghost use Rattle.zone.specs.Cases.{Cases-stand, Canonical};
 ghost use Rattle.zone.specs.Exact.{GapStands, ResetStands, DelayStands, ZeroExact, WithinExact, EmptyExact};
 ghost use Rattle.zone.specs.Zones.{readLimit, limitList, keptZone, zoneCalls, zoneHolds};
@@ -22,16 +23,17 @@ use matrix::delay_form;
 use matrix::is_good_gap;
 use matrix::reset_form;
 use matrix::tighten;
-use matrix::within_form;
 use slip::Refusal;
 use slip::Slip;
 use weight::Bound;
 use weight::BoundWeight;
+use weight::Weight;
 use weight::all_small;
 
 // The bound on the count of clock i less that of clock j stands at 7 * i + j; clock 0 always reads zero. Every array is a
 // zone: the calls bring it to closed form first.
 #[derive(Clone, Copy)]
+#[repr(C)]
 pub struct Zone {
     bounds: [Bound; 49],
 }
@@ -55,6 +57,19 @@ fn load(zone: &Zone) -> [Bound; 49]
     m
 }
 
+// Whether no bound exceeds that of the zone.
+fn is_beneath(m: &[Bound], zone: &Zone) -> bool
+    requires { ⌜ length (now m) ≡ 49 ⌝ }
+    ensures { λ r. ⌜ r ≡ beneathAll limitLeb limitPlus (upTo (pos 0)) free (under (pos 0)) (map limitOf (now (m .entry))) (limitList (now (zone .entry))) ⌝ }
+{
+    for p in 0..49 {
+        if !m[p].at_most(read(zone.bounds[p])) {
+            return false;
+        }
+    }
+    true
+}
+
 fn keep(m: [Bound; 49]) -> Result<Zone, Slip>
     ensures { λ r. ⌜ r ≡ keptZone (map limitOf m) ⌝ }
 {
@@ -69,7 +84,7 @@ fn keep(m: [Bound; 49]) -> Result<Zone, Slip>
 }
 
 fn bound_of(gap: Gap) -> Bound
-    requires { ⌜ natAbs (gap .constant) ≤ 4000000 ⌝ }
+    requires { ⌜ natAbs (gap .constant) ≤ 9999 ⌝ }
     ensures { λ r. ⌜ limitOf r ≡ gapLimit gap ⌝ }
 {
     match gap.sign {
@@ -93,9 +108,9 @@ pub impl ClockSet for Zone as ZoneSet {
     ghost calls = { zoneCalls };
 
     fn all() -> Zone {
-        let mut m = [Bound::free(); 49];
-        tighten(&mut m);
-        Zone { bounds: m }
+        let mut bounds = [Bound::free(); 49];
+        tighten(&mut bounds);
+        Zone { bounds }
     }
 
     fn zero() -> Zone
@@ -151,8 +166,11 @@ pub impl ClockSet for Zone as ZoneSet {
         ensures exact { λ r. ⌜ WithinExact (now (self .entry)) (now (other .entry)) r ⌝ }
     {
         let mut m = load(self);
-        let high = load(other);
-        within_form(&mut m, &high)
+        if canonicalize(&mut m) {
+            is_beneath(&m, other)
+        } else {
+            true
+        }
     }
 
     fn is_empty(&self) -> bool
