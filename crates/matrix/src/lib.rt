@@ -1,7 +1,7 @@
 //! A clock set as 49 weights, row by row: what the calls of every kind do to them.
 
 ghost use mathlib.Core.Path.{_≡_};
-ghost use mathlib.Core.Bool.{Bool, true, false, not, cond, _&&_};
+ghost use mathlib.Core.Bool.{true, false, not, cond, _&&_};
 ghost use mathlib.Core.List.{map};
 ghost use Prim.Native.Nat.{ℕ, _/_, _%_, _^_, _≤_, _<_};
 ghost use lib.Dec.{eqb};

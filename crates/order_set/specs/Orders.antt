@@ -13,7 +13,6 @@ use Rattle.clockset.specs.Calls.{Calls}
 use Rattle.clockset.specs.Laws.{badArgument}
 use Rattle.weight.specs.declared.order_sign.OrderSign.{OrderSign}
 use Rattle.weight.specs.declared.order_sign.OrderSign.the-variants.{Below, AtMost, Free}
-use Rattle.weight.specs.Closing.{lesser}
 use Rattle.weight.specs.Limits.{Limit}
 use Rattle.weight.specs.Signs.{signLeb, signPlus, signLimit}
 use Rattle.zone_theory.specs.Gaps.{gapSign}

@@ -1,12 +1,11 @@
 //! Order sets: sets of clock readings given by the order of every two clocks.
 
 ghost use mathlib.Core.Path.{_≡_};
-ghost use mathlib.Core.List.{map};
 ghost use lib.ListN.{length};
 ghost use Rattle.clockset.specs.Laws.{badArgument};
 ghost use Rattle.zone_theory.specs.Gaps.{gapSign};
 ghost use Rattle.order_set.specs.Exact.{Canonical, GapStands, ResetStands, DelayStands, ZeroExact, WithinExact, EmptyExact};
-ghost use Rattle.order_set.specs.Orders.{signList, stored, orderHolds, orderCalls};
+ghost use Rattle.order_set.specs.Orders.{signList, orderHolds, orderCalls};
 use clocks::Gap;
 use clocks::Sign;
 use clockset::ClockSet;

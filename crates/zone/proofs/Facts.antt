@@ -1,26 +1,25 @@
 -- What the calls of a zone mean, from the lists of limits that they make.
 use mathlib.Core.Path.{_≡_, refl, sym, _∙_, ap, subst}
-use mathlib.Core.Bool.{Bool, true, false, cond, not, _&&_}
+use mathlib.Core.Bool.{Bool, true, false, cond}
 use mathlib.Core.List.{List}
-use mathlib.Core.Logic.{_↔_, _⊎_, inl, inr, ⊎-elim}
-use Prim.Native.Nat.{ℕ, _<_, _≤_}
+use mathlib.Core.Logic.{_⊎_, inl, inr, ⊎-elim}
+use Prim.Native.Nat.{ℕ, _<_}
 use native.Mathlib.Omega.{arith}
-use lib.Dec.{leb, eqb}
+use lib.Dec.{leb}
 use lib.IntN.{pos}
 use lib.ListN.{length}
 use Rattle.std.specs.declared.result.Result.{Result}
 use Rattle.std.specs.declared.result.Result.the-variants.{Ok, Err}
-use Rattle.std.proofs.shelf.Tests.{and-parts, both-ways, cases-bool, cond-false, cond-true, leb-true}
+use Rattle.std.proofs.shelf.Tests.{and-parts, both-ways, cond-false, cond-true, leb-true}
 use Rattle.slip.specs.Refusals.{number}
 use Rattle.slip.specs.declared.Slip.{Slip}
 use Rattle.clocks.specs.declared.Gap.{Gap}
-use Rattle.clocks.specs.Gaps.{ObeysGap, goodGap, goodMask, plusPart, minusPart}
-use Rattle.clocks.specs.Readings.{Reading, inMask, countAt, zeroReading}
+use Rattle.clocks.specs.Gaps.{goodGap, goodMask}
+use Rattle.clocks.specs.Readings.{Reading, inMask, countAt}
 use Rattle.clockset.specs.Laws.{badArgument, boundTooLarge, Alike}
 use Rattle.weight.specs.Bounds.{allSmall}
 use Rattle.weight.specs.Closing.{cell, onePass, closing, emptyForm}
 use Rattle.weight.specs.Limits.{Limit, under, upTo, free, limitLeb, limitPlus}
-use Rattle.zone_theory.specs.Exact.{Reset, Delay}
 use Rattle.zone_theory.specs.Gaps.{gapLimit}
 use Rattle.zone_theory.specs.Matrices.{zeroLimits, allLimits}
 use Rattle.zone_theory.specs.Readings.{Holds, Fine}
@@ -30,11 +29,11 @@ use Rattle.zone_theory.proofs.GapLimits.{gap-obeys}
 use Rattle.zone_theory.proofs.Kept.{same-meets}
 use Rattle.zone_theory.proofs.Larges.{cut-large, reset-large, delay-large}
 use Rattle.zone_theory.proofs.Moves.{all-forth, zero-back, zero-forth}
-use Rattle.zone_theory.proofs.Tables.{tabled-cell, tabled-length}
+use Rattle.zone_theory.proofs.Tables.{tabled-cell}
 use Rattle.zone.specs.declared.Zone.{Zone}
 use Rattle.zone.specs.Cases.{Cases-stand, Canonical}
-use Rattle.zone.specs.Exact.{emptyZone, Formed, GapExact, ResetExact, DelayExact, BadWhen, GapLarge, ResetLarge, DelayLarge, GapStands, ResetStands, DelayStands, ZeroExact, WithinExact, EmptyExact}
-use Rattle.zone.specs.Zones.{limitList, limits, zoneHolds, stored, keptZone, zoneAll, zoneZero, zoneGap, zoneReset, zoneDelay, zoneWithin, zoneEmpty}
+use Rattle.zone.specs.Exact.{Formed, GapExact, ResetExact, DelayExact, BadWhen, GapLarge, ResetLarge, DelayLarge, GapStands, ResetStands, DelayStands, ZeroExact, WithinExact, EmptyExact}
+use Rattle.zone.specs.Zones.{limitList, zoneHolds, stored, keptZone, zoneAll, zoneZero, zoneGap, zoneReset, zoneDelay, zoneWithin, zoneEmpty}
 use Rattle.zone.proofs.Kept.{read-again}
 
 -- a zone that is kept has the limits that were computed

@@ -1,17 +1,15 @@
 -- Bounds as limits, and small limits as bounds.
 use mathlib.Core.Path.{_≡_, refl, sym, _∙_, ap}
-use mathlib.Core.Bool.{Bool, true}
+use mathlib.Core.Bool.{true}
 use mathlib.Core.List.{List, map}
 use native.Mathlib.Omega.{arith}
 use Prim.Native.Nat.{ℕ, _+_, _*_, _/_, _%_, _<_, _≤_}
 use lib.Dec.{leb}
 use lib.IntN.{pos}
 use lib.ListN.{getD, length}
-use Rattle.std.specs.declared.result.Result.{Result}
 use Rattle.std.specs.declared.result.Result.the-variants.{Ok, Err}
 use Rattle.std.proofs.shelf.Lists.{getD-map}
 use Rattle.std.proofs.shelf.Tests.{cond-both, cond-true, le-leb, leb-true}
-use Rattle.slip.specs.declared.Slip.{Slip}
 use Rattle.clockset.specs.Laws.{boundTooLarge}
 use Rattle.weight.specs.declared.bound.Bound.{Bound}
 use Rattle.weight.specs.Bounds.{limitOf, boundOf, limitSize, allSmall}

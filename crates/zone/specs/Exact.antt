@@ -2,7 +2,6 @@
 use mathlib.Core.Path.{_≡_}
 use mathlib.Core.Bool.{Bool, true, false}
 use mathlib.Core.Logic.{_↔_, _⊎_}
-use mathlib.Core.List.{List}
 use Prim.Native.Nat.{ℕ, _≤_}
 use lib.IntN.{pos}
 use lib.ListN.{length}
@@ -12,7 +11,7 @@ use Rattle.slip.specs.declared.Slip.{Slip}
 use Rattle.clocks.specs.declared.Gap.{Gap}
 use Rattle.clocks.specs.Gaps.{ObeysGap, goodGap, goodMask}
 use Rattle.clocks.specs.Readings.{Reading, inMask, zeroReading}
-use Rattle.clockset.specs.Laws.{badArgument, boundTooLarge, Inside, Vacant, Alike}
+use Rattle.clockset.specs.Laws.{badArgument, boundTooLarge, Inside, Vacant}
 use Rattle.weight.specs.Closing.{emptyForm}
 use Rattle.weight.specs.Limits.{Limit, under}
 use Rattle.zone_theory.specs.Exact.{Closes, Reset, Delay}

@@ -16,7 +16,8 @@ use Rattle.zone_theory.specs.Matrices.{delayLimits}
 use Rattle.clocks.specs.Readings.{countAt, times, later}
 use Rattle.zone_theory.specs.Readings.{Obeys, Meets, Holds, Fine}
 use Rattle.zone_theory.proofs.Moves.{holds-times}
-use Rattle.zone_theory.proofs.LimitLaws.{limit-laws, limit-top}
+use Rattle.weight.proofs.Limited.{limit-laws}
+use Rattle.zone_theory.proofs.LimitLaws.{limit-top}
 use Rattle.zone_theory.proofs.Counts.{same-counts, count-times, count-later}
 use Rattle.zone_theory.proofs.Obeyed.{obeys-same, obeys-shift, obeys-less}
 use Rattle.zone_theory.proofs.Points.{point, withCount, extended}

@@ -17,7 +17,7 @@ use Rattle.zone_theory.proofs.Counts.{times-one}
 use Rattle.zone_theory.proofs.Found.{fine-sound, fine-reading, within-back, same-readings}
 use Rattle.zone_theory.proofs.Kept.{beneath-meets, tightened-beneath, tightened-meets, closing-forth, closing-back, closing-fine, falling-none, fine-tight}
 use Rattle.zone_theory.proofs.Images.{form-by-ways, same-closed-form}
-use Rattle.zone_theory.proofs.LimitLaws.{limit-laws}
+use Rattle.weight.proofs.Limited.{limit-laws}
 use Rattle.zone_theory.proofs.Levels.{level-closing, level-tightened, level-reset, level-delay}
 use Rattle.zone_theory.proofs.Moves.{times-holds, holds-times, cut-forth, cut-back, zero-fine, zero-back, zero-forth, all-fine, all-forth, empty-falls, empty-vacant}
 use Rattle.zone_theory.proofs.Resets.{reset-fine, reset-forth, reset-back}

@@ -1,8 +1,8 @@
 -- The calls on lists of weights are exact, for any weights that a map takes into limits.
-use mathlib.Core.Path.{_≡_, refl, sym, _∙_, ap, subst}
+use mathlib.Core.Path.{_≡_, refl, sym, _∙_, ap}
 use mathlib.Core.Bool.{Bool, true, false, cond, not, _&&_, _||_}
 use mathlib.Core.List.{List}
-use mathlib.Core.Logic.{_↔_, _⊎_, inl, inr, ⊎-elim}
+use mathlib.Core.Logic.{_↔_, _⊎_, inl, inr}
 use Prim.Native.Nat.{ℕ, _+_, _*_, _/_, _%_, _<_, _≤_}
 use native.Mathlib.Nat.{mul-le-mul}
 use native.Mathlib.Omega.{arith}
@@ -15,10 +15,9 @@ use Rattle.std.proofs.shelf.Tests.{both-ways}
 use Rattle.clocks.specs.Readings.{countAt}
 use Rattle.weight.specs.Closing.{cell, lesser, emptyForm}
 use Rattle.weight.specs.Limits.{Limit, under, upTo, free, limitLeb, limitPlus}
-use Rattle.weight.specs.Weights.{Laws, Beneath, ClosedForm}
+use Rattle.weight.specs.Weights.{Laws, Beneath}
 use Rattle.weight.specs.Signs.{signLeb, signPlus, signLimit}
 use Rattle.weight.specs.declared.order_sign.OrderSign.the-variants.{Below, AtMost, Free}
-use Rattle.weight.proofs.Limited.{sign-leb, sign-plus}
 use Rattle.weight.proofs.Images.{image-closed-form, image-falling}
 use Rattle.weight.proofs.Matrix.{closing-closed, closing-falling, closing-length, empty-cell}
 use Rattle.zone_theory.specs.Exact.{Closes, Falls, Reset, Delay}
@@ -28,9 +27,10 @@ use Rattle.zone_theory.specs.Sets.{tabled, view, tight, canonicalForm, orEmpty
 use Rattle.zone_theory.proofs.Exact.{closes-forth, closes-back, closes-readable, closes-within, closes-reset, closes-delay, falls-vacant, alike-closes, alike-falls, alike-cut, gap-exact}
 use Rattle.zone_theory.proofs.Images.{same-closed-form, same-falling}
 use Rattle.zone_theory.proofs.Kept.{same-meets, same-fine, closing-fine}
-use Rattle.zone_theory.proofs.LimitLaws.{limit-laws, sign-laws}
+use Rattle.weight.proofs.Limited.{limit-laws, sign-leb, sign-plus}
+use Rattle.zone_theory.proofs.LimitLaws.{sign-laws}
 use Rattle.zone_theory.proofs.Moves.{empty-vacant}
-use Rattle.zone_theory.proofs.Resets.{home-in, reset-fine}
+use Rattle.zone_theory.proofs.Resets.{reset-fine}
 use Rattle.zone_theory.proofs.Delays.{delay-fine}
 use Rattle.zone_theory.proofs.Tables.{tabled-cell, tabled-length, cells-same, every-at, every-from, empty-length}
 

@@ -17,7 +17,7 @@ use Rattle.clocks.specs.Readings.{countAt, listed}
 use Rattle.zone_theory.specs.Readings.{Obeys, Meets, Holds, Fine, Readable, Inside, Alike}
 use Rattle.zone_theory.specs.Matrices.{tighter}
 use Rattle.zone_theory.proofs.Kept.{tighter-left, tighter-right}
-use Rattle.zone_theory.proofs.LimitLaws.{limit-laws}
+use Rattle.weight.proofs.Limited.{limit-laws}
 use Rattle.zone_theory.proofs.Counts.{count-listed, length-listed}
 use Rattle.zone_theory.proofs.Obeyed.{obeys-leb, obeys-same, obeys-self, obeys-part, obeys-shift, obeys-unshift, obeys-zero, zero-obeys}
 use Rattle.zone_theory.proofs.Points.{least, least-obeys, least-fits, roof, roof-obeys, withClock, withCount, joined, Held, Grown, filled, filled-meets}

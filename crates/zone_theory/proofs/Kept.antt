@@ -11,7 +11,8 @@ use Rattle.weight.specs.Limits.{Limit, upTo, limitLeb, limitPlus}
 use Rattle.weight.specs.Weights.{Beneath, Way, step, join, ClosedForm, Falling}
 use Rattle.zone_theory.specs.Readings.{Obeys, Meets, Fine}
 use Rattle.zone_theory.specs.Matrices.{tighter, tightened}
-use Rattle.zone_theory.proofs.LimitLaws.{limit-laws, limit-flip}
+use Rattle.weight.proofs.Limited.{limit-laws}
+use Rattle.zone_theory.proofs.LimitLaws.{limit-flip}
 use Rattle.zone_theory.proofs.Obeyed.{obeys-leb, obeys-plus, obeys-self, obeys-zero}
 
 -- the tighter limit is at or below both, and obeyed where both are

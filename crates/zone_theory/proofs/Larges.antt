@@ -3,7 +3,7 @@ use mathlib.Core.Path.{_≡_, refl, sym, _∙_, ap}
 use mathlib.Core.Bool.{Bool, true, false, cond, not, _&&_, _||_}
 use mathlib.Core.List.{List, [], _∷_}
 use mathlib.Core.Logic.{_↔_, _⊎_, ⊎-elim}
-use Prim.Native.Nat.{ℕ, zero, suc, _+_, _*_, _/_, _%_, _<_}
+use Prim.Native.Nat.{ℕ, suc, _+_, _*_, _/_, _%_, _<_}
 use native.Mathlib.Omega.{arith}
 use lib.Dec.{eqb, leb}
 use lib.IntN.{pos}
@@ -21,7 +21,7 @@ use Rattle.zone_theory.specs.Sets.{tabled, canonicalForm, orEmpty, cutWeights,
 use Rattle.zone_theory.proofs.Exact.{alike-closes, alike-falls}
 use Rattle.zone_theory.proofs.Forms.{form-closes, form-falls, cut-cells, cut-length, reset-cells, reset-length, delay-cells, delay-length, limit-embeds}
 use Rattle.zone_theory.proofs.Images.{same-closed-form}
-use Rattle.zone_theory.proofs.LimitLaws.{limit-laws}
+use Rattle.weight.proofs.Limited.{limit-laws}
 use Rattle.zone_theory.proofs.Resets.{home-in}
 
 empty-small : allSmall (emptyForm (under (pos 0))) ≡ true

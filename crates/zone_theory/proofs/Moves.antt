@@ -14,8 +14,8 @@ use Rattle.zone_theory.specs.Exact.{Falls}
 use Rattle.zone_theory.specs.Matrices.{tighter, tightened, emptyLimits, cutLimits, zeroLimits, allLimits}
 use Rattle.clocks.specs.Readings.{countAt, times, zeroReading}
 use Rattle.zone_theory.specs.Readings.{Obeys, Meets, Holds, Fine, Vacant}
-use Rattle.zone_theory.proofs.Images.{falling-by-way}
-use Rattle.zone_theory.proofs.LimitLaws.{limit-laws}
+use Rattle.weight.proofs.Passes.{falling}
+use Rattle.weight.proofs.Limited.{limit-laws}
 use Rattle.zone_theory.proofs.Counts.{count-listed, same-counts, count-times}
 use Rattle.zone_theory.proofs.Kept.{tighter-left, tighter-right, obeys-tighter, beneath-meets, tightened-meets}
 use Rattle.zone_theory.proofs.Obeyed.{obeys-leb, obeys-same, obeys-part, obeys-times, obeys-zero, zero-obeys}
@@ -85,7 +85,7 @@ all-forth s v = tightened-meets (λ i j. free) s (countAt v) refl (λ i j hi hj.
 
 -- the matrix of no reading
 pub empty-falls : Falls emptyLimits
-empty-falls = falling-by-way limit-laws (tightened emptyLimits) 0 (under (pos 0)) (omega arith) (step 0 0 (omega arith) (omega arith)) refl
+empty-falls = falling limit-laws (tightened emptyLimits) 0 (under (pos 0)) (omega arith) (step 0 0 (omega arith) (omega arith)) refl
 
 pub empty-vacant : Vacant emptyLimits
 empty-vacant s v p h = omega (arith, h 0 0 (omega arith) (omega arith))

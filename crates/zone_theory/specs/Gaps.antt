@@ -1,6 +1,6 @@
 -- A gap as a limit, and as a sign: the order of two clocks that follows from it.
 use lib.IntN.{ℤ, pos, negsuc}
-use Prim.Native.Nat.{ℕ, zero, suc}
+use Prim.Native.Nat.{zero, suc}
 use Rattle.clocks.specs.declared.Gap.{Gap}
 use Rattle.clocks.specs.declared.Sign.{Sign}
 use Rattle.clocks.specs.declared.Sign.the-variants.{Below, AtMost}

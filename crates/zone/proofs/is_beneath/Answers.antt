@@ -1,11 +1,11 @@
-use mathlib.Core.Path.{_≡_, sym, _∙_, ap}
-use mathlib.Core.Bool.{Bool, true, false}
+use mathlib.Core.Path.{_≡_, sym, _∙_}
+use mathlib.Core.Bool.{true, false}
 use mathlib.Core.List.{map}
 use Prim.Native.Nat.{ℕ, _/_, _%_, _<_}
 use native.Mathlib.Numerals.{add-one}
 use native.Mathlib.Omega.{arith}
 use lib.IntN.{pos}
-use lib.ListN.{getD, length}
+use lib.ListN.{length}
 use Rattle.std.proofs.shelf.Lists.{getD-map}
 use Rattle.std.proofs.shelf.Tests.{and-from}
 use Rattle.weight.specs.Bounds.{limitOf}

@@ -1,4 +1,4 @@
-use mathlib.Core.Path.{_≡_, refl, sym, _∙_, ap}
+use mathlib.Core.Path.{sym, _∙_, ap}
 use Rattle.zone_theory.specs.Sets.{tabled}
 use Rattle.order_set.specs.Orders.{stored}
 use Rattle.order_set.proofs.Facts.{map-self}

@@ -6,7 +6,7 @@ use Rattle.slip.specs.declared.Slip.{Slip}
 use Rattle.clocks.specs.Gaps.{goodGap}
 use Rattle.clockset.specs.Laws.{badArgument}
 use Rattle.order_set.specs.declared.OrderSet.{OrderSet}
-use Rattle.order_set.specs.Orders.{signList, stored, orderGap}
+use Rattle.order_set.specs.Orders.{stored, orderGap}
 use Rattle.order_set.proofs.Facts.{map-self, cutList, gap-stands}
 use Rattle.order_set.proofs.OrderClockSet.gap.Needs as need
 

@@ -1,5 +1,4 @@
-use mathlib.Core.Path.{_≡_, refl, sym, subst}
-use mathlib.Core.List.{map}
+use mathlib.Core.Path.{refl, sym, subst}
 use Rattle.zone_theory.specs.Matrices.{zeroLimits}
 use Rattle.zone_theory.specs.Sets.{tabled}
 use Rattle.zone.specs.Exact.{ZeroExact}
