@@ -1,5 +1,7 @@
 //! The calls of zones for a benchmark in Rust: each writes its result over its zone, and says whether it came.
 
+#![tactic(auto)]
+
 use clocks::{Gap, Sign};
 use clockset::ClockSet;
 use slip::Slip;

@@ -1,5 +1,7 @@
 // What every layer knows of clocks: clocks 1 to 6 of a reading, and clock 0, which always reads zero.
 
+#![tactic(auto)]
+
 // Whether a difference has to lie below a constant, or may also equal it.
 #[derive(Clone, Copy)]
 pub enum Sign {

@@ -1,5 +1,7 @@
 // Sets of clock readings. A kind of set is known by its readings at each scale and by what its calls make of them, and by
 // nothing else: whatever is built on this trait holds of every kind.
+#![tactic(auto)]
+
 ghost use Rattle.std.specs.Prelude.{◌≡◌, ℕ, Bool, List, Ok};
 ghost use Rattle.clockset.specs.Calls.{Calls, ◌⨾◌, cut_all};
 ghost use Rattle.clockset.specs.Laws.{Sound, Sure, Forms};

@@ -1,4 +1,6 @@
 // The docket: entries that a caller claims to take up every run of a model, the duties that this puts on it, and a trail.
+#![tactic(auto)]
+
 mod begin;
 mod count;
 pub mod docket;

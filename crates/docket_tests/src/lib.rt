@@ -1,6 +1,8 @@
 // Tests of the docket's calls over zones and over order sets: each refusal with its place, and what the marks come to. The plans are those of
 // examples/, and the expected values follow from docs/docket.md.
 
+#![tactic(auto)]
+
 #[cfg(test)]
 mod tests {
     use clocks::{Gap, Sign};

@@ -1,4 +1,6 @@
 // The docket as a value: what it holds, what each of its calls makes of it, and what holds after every list of calls.
+#![tactic(auto)]
+
 ghost use Rattle.docket_theory.specs.Promise.{Stands};
 
 use clockset::ClockSet;

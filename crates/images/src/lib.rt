@@ -1,4 +1,6 @@
 // Images: what the steps out of a cell make of a set of clock readings.
+#![tactic(auto)]
+
 pub mod departure;
 mod gap_list;
 mod gaps;

@@ -1,4 +1,6 @@
 // Judges a plan and prints the report: model.hd, cover.hd and trail.hd of the current folder.
+#![tactic(auto)]
+
 use judging::judge_text;
 use std::io::ErrorKind;
 use std::{fs, io};

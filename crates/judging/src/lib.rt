@@ -1,4 +1,6 @@
 // The judge: a model, a cover and a trail, as a report. It is written for every kind of clock set.
+#![tactic(auto)]
+
 ghost use Rattle.std.specs.Prelude.{◌≡◌, ℕ, List, [], ◌∷◌, ◌++◌, map, length, replicate, IfOk, Some, None, Ok, vec_items, string_bytes, OnOk};
 ghost use Rattle.std.specs.List.{slice_get};
 ghost use Rattle.std.specs.Option.{option_map};

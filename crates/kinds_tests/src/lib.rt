@@ -1,5 +1,7 @@
 //! Tests of weights and of the two kinds of clock sets, with values found by hand.
 
+#![tactic(auto)]
+
 #[cfg(test)]
 mod weights {
     use std::test::Fail;

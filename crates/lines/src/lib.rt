@@ -1,4 +1,6 @@
 // The lines that the programs print, byte for byte.
+#![tactic(auto)]
+
 ghost use Rattle.std.specs.Prelude.{◌≡◌, ◌++◌, IfOk, Some, string_bytes, OnOk};
 ghost use Rattle.lines.specs.Lines.{tenths, step_words, six_counts, verdict_word, line_text, lines_text};
 

@@ -1,5 +1,7 @@
 //! A clock set as 49 weights, row by row: what the calls of every kind do to them.
 
+#![tactic(auto)]
+
 ghost use Rattle.std.specs.Prelude.{◌≡◌, ℕ, ◌/◌, ◌%◌, ◌^◌, ◌<◌, ◌≤◌, true, false, not, ◌&&◌, map, length, if◌then◌else◌, Some, None, ◌==◌};
 ghost use Rattle.clocks.specs.Gaps.{good_gap};
 ghost use Rattle.clocks.specs.Readings.{in_mask};

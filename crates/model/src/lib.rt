@@ -1,3 +1,5 @@
+#![tactic(auto)]
+
 pub mod accept;
 pub mod accepted;
 mod faces;

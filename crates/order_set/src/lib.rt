@@ -1,5 +1,7 @@
 //! Order sets: sets of clock readings given by the order of every two clocks.
 
+#![tactic(auto)]
+
 ghost use Rattle.std.specs.Prelude.{◌≡◌, true, length, if◌then◌else◌, refl};
 ghost use Rattle.std.proofs.Common.{◌∙◌};
 ghost use Rattle.clockset.specs.Laws.{bad_argument};

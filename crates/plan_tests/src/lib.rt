@@ -1,6 +1,8 @@
 // Tests of models and trails: every refusal that a model's rules and a trail's calls give, with its place. The bytes are written by hand
 // from docs/files.md.
 
+#![tactic(auto)]
+
 #[cfg(test)]
 mod tests {
     use model::accepted::Model;

@@ -1,4 +1,6 @@
 // The refusals. Whatever any layer turns away, it says by one of these cases, with the place where it found the fault.
+#![tactic(auto)]
+
 ghost use Rattle.std.specs.Prelude.{◌≡◌, ℕ, Some};
 ghost use Rattle.slip.specs.Refusals.{number, layer};
 ghost use Rattle.slip.specs.Line.{slip_line};

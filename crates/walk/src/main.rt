@@ -1,4 +1,6 @@
 // Walks a trail through a model and prints each step: model.hd and trail.hd of the current folder.
+#![tactic(auto)]
+
 use std::io::ErrorKind;
 use std::{fs, io};
 use walking::walk_text;

@@ -1,4 +1,6 @@
 // A walk: a model and a trail through it, as lines of text.
+#![tactic(auto)]
+
 ghost use Rattle.std.specs.Prelude.{◌≡◌, List, [], ◌∷◌, ◌++◌, length, IfOk, if◌then◌else◌, Ok, vec_items, string_bytes, OnOk};
 ghost use Rattle.std.specs.Option.{option_map};
 ghost use Rattle.wire.specs.Files.{trail_file, trail_seen};

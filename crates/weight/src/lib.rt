@@ -1,5 +1,7 @@
 //! Weights that a matrix of differences is made of, and the closing of such a matrix.
 
+#![tactic(auto)]
+
 ghost use Rattle.std.specs.Prelude.{◌≡◌, ℕ, ◌+◌, ◌^◌, ◌≤◌, Bool};
 ghost use Rattle.weight.specs.Weights.{Laws};
 ghost use Rattle.weight.specs.Closing.{lesser};

@@ -1,4 +1,6 @@
 // The files of a plan, byte by byte: the model file, and what the crates of its parts, of the trail file and of the cover file have.
+#![tactic(auto)]
+
 pub mod files;
 pub mod model;
 

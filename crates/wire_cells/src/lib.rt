@@ -1,3 +1,5 @@
 // A cell in a model file.
+#![tactic(auto)]
+
 pub mod cell;
 pub mod read;

@@ -1,3 +1,5 @@
 // The cover file.
+#![tactic(auto)]
+
 pub mod cover;
 pub mod read;

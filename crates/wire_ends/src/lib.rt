@@ -1,3 +1,5 @@
 // The range of a clock in a model file.
+#![tactic(auto)]
+
 pub mod ends;
 pub mod read;

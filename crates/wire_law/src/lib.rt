@@ -1,4 +1,6 @@
 // The laws of the file formats, each as the contract of a function that does nothing else.
+#![tactic(auto)]
+
 ghost use Rattle.wire_law.specs.Examples.{ExamplesStand};
 ghost use Rattle.wire_law.specs.Laws.{CoverFits, CoverRead, CoverSpelt, ModelFits, ModelRead, ModelSpelt, TrailFits, TrailRead, TrailSpelt};
 

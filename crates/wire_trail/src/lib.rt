@@ -1,4 +1,6 @@
 // The trail file.
+#![tactic(auto)]
+
 pub mod read;
 pub mod step;
 pub mod trail;

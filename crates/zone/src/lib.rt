@@ -1,5 +1,7 @@
 //! Zones: sets of clock readings given by a bound on the difference of every two clocks.
 
+#![tactic(auto)]
+
 ghost use Rattle.std.specs.Prelude.{◌≡◌, ◌^◌, ◌≤◌, map, length, pos, if◌then◌else◌, Ok, Err, unsigned_abs, refl};
 ghost use Rattle.std.proofs.Common.{sym, ◌∙◌};
 ghost use Rattle.clockset.specs.Calls.{◌⨾◌, cut_all};

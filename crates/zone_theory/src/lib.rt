@@ -1,4 +1,6 @@
 // Theorems about readings of matrices of limits. The functions carry them: each contract is the theorem, and nothing is computed.
+#![tactic(auto)]
+
 ghost use Rattle.zone_theory.specs.Exact.{ClosingExact, WithinExact, Canonical, GapExact, ResetExact, DelayExact, ZeroExact, AllExact, EmptyExact, ScaleFree, LevelsStay};
 
 // Closing keeps the readings of any matrix, and tells whether it has one.
