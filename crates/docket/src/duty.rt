@@ -65,7 +65,7 @@ pub(crate) fn duty_at<S: Copy>(
 }
 
 pub(crate) fn duty_image<S: ClockSet>(model: &Model, duty: &Duty<S>) -> Result<S, Slip>
-    ensures { result ≡ duty_image calls (plan_of model.now) duty.now }
+    ensures { result ≡ duty_image S.calls (plan_of model.now) duty.now }
 {
     match duty {
         Duty::Opening => opening_image(model),

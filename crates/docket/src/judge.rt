@@ -68,7 +68,7 @@ impl Docket {
         marks: &[u16],
     ) -> Verdict
         ensures is { result ≡ verdict_of (plan_of model.now) (world entries.now marks.now self.now) }
-        ensures promise { (log : Log S) → Logged calls (plan_of model.now) log (world entries.now marks.now self.now) → Promise holds calls (plan_of model.now) (world entries.now marks.now self.now) log }
+        ensures promise { (log : Log S) → Logged S.calls (plan_of model.now) log (world entries.now marks.now self.now) → Promise S.holds S.calls (plan_of model.now) (world entries.now marks.now self.now) log }
     {
         self.judged(model, entries, marks)
     }

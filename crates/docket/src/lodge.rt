@@ -28,7 +28,7 @@ fn lodge_fault<S: ClockSet>(
     cell: u16,
     set: &S,
 ) -> Option<Slip>
-    ensures { result ≡ lodge_fault calls (plan_of model.now) cell set.now (world entries.now marks.now fresh_docket) }
+    ensures { result ≡ lodge_fault S.calls (plan_of model.now) cell set.now (world entries.now marks.now fresh_docket) }
 {
     if is_full(entries, marks) {
         return slip_at(Refusal::DocketFull, entries.live);
@@ -53,7 +53,7 @@ impl Docket {
         cell: u16,
         set: &S,
     ) -> Result<u16, Slip>
-        ensures { (result, world entries.new marks.new self.now) ≡ lodged calls (plan_of model.now) cell set.now (world entries.old marks.old self.now) }
+        ensures { (result, world entries.new marks.new self.now) ≡ lodged S.calls (plan_of model.now) cell set.now (world entries.old marks.old self.now) }
     {
         let live = entries.live;
         if let Some(slip) = lodge_fault(model, entries, marks, cell, set) {

@@ -25,7 +25,7 @@ pub(crate) fn slip_at(refusal: Refusal, i: u16) -> Option<Slip>
 
 // No holder claims that the image is empty.
 fn empty_fault<S: ClockSet>(i: u16, found: Result<S, Slip>) -> Option<Slip>
-    ensures { result ≡ held_fault i calls.empty found }
+    ensures { result ≡ held_fault i S.calls.empty found }
 {
     match found {
         Ok(a) => if a.is_empty() {
@@ -38,7 +38,7 @@ fn empty_fault<S: ClockSet>(i: u16, found: Result<S, Slip>) -> Option<Slip>
 }
 
 fn within_fault<S: ClockSet>(i: u16, found: Result<S, Slip>, holder: &S) -> Option<Slip>
-    ensures { result ≡ held_fault i (λ a. calls.within a holder.now) found }
+    ensures { result ≡ held_fault i (λ a. S.calls.within a holder.now) found }
 {
     match found {
         Ok(a) => if a.within(holder) {
@@ -56,7 +56,7 @@ fn holder_fault<S: ClockSet>(
     duty: &Duty<S>,
     holder: Option<Entry<S>>,
 ) -> Option<Slip>
-    ensures { result ≡ holder_fault calls (plan_of model.now) i duty.now holder }
+    ensures { result ≡ holder_fault S.calls (plan_of model.now) i duty.now holder }
 {
     match holder {
         Some(e) => {
@@ -78,7 +78,7 @@ fn claim_fault<S: ClockSet>(
     duty: &Duty<S>,
     claim: Option<u16>,
 ) -> Option<Slip>
-    ensures { result ≡ claim_fault calls (plan_of model.now) (rows_world rows.now live) i duty.now claim }
+    ensures { result ≡ claim_fault S.calls (plan_of model.now) (rows_world rows.now live) i duty.now claim }
 {
     match claim {
         Some(h) => holder_fault(model, i, duty, row(rows, live, h as usize)),
@@ -94,7 +94,7 @@ fn settle_fault<S: ClockSet>(
     step: u16,
     claim: Option<u16>,
 ) -> Option<Slip>
-    ensures { result ≡ settle_fault calls (plan_of model.now) i step claim (rows_world rows.now live) }
+    ensures { result ≡ settle_fault S.calls (plan_of model.now) i step claim (rows_world rows.now live) }
 {
     match duty_at(model, rows, live, i, step) {
         Some(duty) => claim_fault(model, rows, live, i, &duty, claim),
@@ -122,7 +122,7 @@ impl Docket {
         step: u16,
         claim: Option<u16>,
     ) -> Result<(), Slip>
-        ensures { (result, world entries.now marks.new self.new) ≡ settled calls (plan_of model.now) i step claim (world entries.now marks.old self.old) }
+        ensures { (result, world entries.now marks.new self.new) ≡ settled S.calls (plan_of model.now) i step claim (world entries.now marks.old self.old) }
     {
         if let Some(slip) = settle_fault(model, entries.rows, entries.live, i, step, claim) {
             return Err(slip);

@@ -23,14 +23,14 @@ use slip::Slip;
 
 // Whether the entry holds the set of that closed form on the cell. Its cell is looked at first, as sets are dear to compare.
 fn holds_on<S: ClockSet>(holder: &Entry<S>, closed: &S, goal: usize) -> bool
-    ensures { (a : S) → closed.now ≡ calls.closed a → result ≡ can_hold calls a goal (Some holder.now) }
+    ensures { (a : S) → closed.now ≡ S.calls.closed a → result ≡ can_hold S.calls a goal (Some holder.now) }
 {
     holder.cell as usize == goal && closed.closed_within(&holder.set)
 }
 
 // The lowest live entry that holds the set of that closed form on the cell.
 fn lowest_holder<S: ClockSet>(rows: &[Entry<S>], live: u16, closed: &S, goal: usize) -> Option<u16>
-    ensures { (a : S) → closed.now ≡ calls.closed a → result ≡ lowest_holder calls (rows_world rows.now live) a goal }
+    ensures { (a : S) → closed.now ≡ S.calls.closed a → result ≡ lowest_holder S.calls (rows_world rows.now live) a goal }
 {
     for (h, holder) in live_rows(rows, live).iter().enumerate() {
         if holds_on(holder, closed, goal) {
@@ -51,7 +51,7 @@ fn holder_mark(holder: Option<u16>) -> u16
 
 // The mark by which a duty can be settled whose image has this closed form, and this target.
 fn found_mark<S: ClockSet>(rows: &[Entry<S>], live: u16, goal: usize, found: Result<S, Slip>) -> u16
-    ensures { (image : Result S Slip) → found ≡ closed_form calls image → result ≡ found_mark calls (rows_world rows.now live) goal image }
+    ensures { (image : Result S Slip) → found ≡ closed_form S.calls image → result ≡ found_mark S.calls (rows_world rows.now live) goal image }
 {
     match found {
         Ok(closed) => if closed.closed_is_empty() {
@@ -74,8 +74,8 @@ fn sweep_step<S: ClockSet>(
     leaving: &Departure<S>,
     step: Move,
 )
-    requires { leaving.now ≡ departure calls (plan_of model.now) from.now }
-    ensures { marks.new ≡ slice_set marks.old place (swept_mark calls (plan_of model.now) (rows_world rows.now live) (Some (Leave from.now step)) (slice_index_or marks.old place open_mark)) }
+    requires { leaving.now ≡ departure S.calls (plan_of model.now) from.now }
+    ensures { marks.new ≡ slice_set marks.old place (swept_mark S.calls (plan_of model.now) (rows_world rows.now live) (Some (Leave from.now step)) (slice_index_or marks.old place open_mark)) }
 {
     if mark_at(marks, place) == OPEN {
         let goal = target_of(model, from.cell as usize, step);
@@ -91,7 +91,7 @@ fn sweep_step<S: ClockSet>(
 
 // Sweeps the steps out of entry i's cell.
 fn sweep_entry<S: ClockSet>(model: &Model, rows: &[Entry<S>], live: u16, marks: &mut [u16], i: u16)
-    ensures { (d : Docket) → world_of rows.now live marks.new d ≡ steps_swept calls (plan_of model.now) i (steps_out (plan_of model.now) (row_in rows.now live i)) (world_of rows.now live marks.old d) }
+    ensures { (d : Docket) → world_of rows.now live marks.new d ≡ steps_swept S.calls (plan_of model.now) i (steps_out (plan_of model.now) (row_in rows.now live i)) (world_of rows.now live marks.old d) }
 {
     if let Some(from) = row(rows, live, i as usize) {
         let moves = steps_from(model, from.cell);
@@ -112,7 +112,7 @@ fn sweep_entry<S: ClockSet>(model: &Model, rows: &[Entry<S>], live: u16, marks: 
 }
 
 fn sweep_entries<S: ClockSet>(model: &Model, rows: &[Entry<S>], live: u16, marks: &mut [u16])
-    ensures { (d : Docket) → world_of rows.now live marks.new d ≡ entries_swept calls (plan_of model.now) live (world_of rows.now live marks.old d) }
+    ensures { (d : Docket) → world_of rows.now live marks.new d ≡ entries_swept S.calls (plan_of model.now) live (world_of rows.now live marks.old d) }
 {
     for i in 0..live {
         sweep_entry(model, rows, live, marks, i);
@@ -121,7 +121,7 @@ fn sweep_entries<S: ClockSet>(model: &Model, rows: &[Entry<S>], live: u16, marks
 
 impl Docket {
     fn sweep_opening<S: ClockSet>(&mut self, model: &Model, rows: &[Entry<S>], live: u16)
-        ensures { self.new ≡ record { opening = swept_mark calls (plan_of model.now) (rows_world rows.now live) (Some Opening) self.old.opening; trail = self.old.trail } }
+        ensures { self.new ≡ record { opening = swept_mark S.calls (plan_of model.now) (rows_world rows.now live) (Some Opening) self.old.opening; trail = self.old.trail } }
     {
         if self.opening == OPEN {
             self.opening = found_mark(rows, live, model.first, closed_opening_image::<S>(model));
@@ -134,7 +134,7 @@ impl Docket {
         entries: &Entries<S>,
         marks: &mut [u16],
     ) -> u32
-        ensures { (result, world entries.now marks.new self.new) ≡ swept calls (plan_of model.now) (world entries.now marks.old self.old) }
+        ensures { (result, world entries.now marks.new self.new) ≡ swept S.calls (plan_of model.now) (world entries.now marks.old self.old) }
     {
         self.sweep_opening(model, entries.rows, entries.live);
         sweep_entries(model, entries.rows, entries.live, marks);

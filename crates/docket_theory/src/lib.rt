@@ -30,7 +30,7 @@ pub enum Verdict {
 
 // That the promise stands for every kind of clock set.
 pub fn promise_stands<S: ClockSet>() -> u8
-    ensures { Stands holds calls }
+    ensures { Stands S.holds S.calls }
 {
     0
 }

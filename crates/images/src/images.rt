@@ -17,7 +17,7 @@ use wire::cell::Cell;
 
 // The readings that meet the cell's invariant.
 fn cut_by<S: ClockSet>(a: &S, cell: &Cell) -> Result<S, Slip>
-    ensures { result ≡ cut_by calls cell.now a.now }
+    ensures { result ≡ cut_by S.calls cell.now a.now }
 {
     let gaps = gaps_of(cell);
     a.cut(&gaps.list[..gaps.count])
@@ -25,7 +25,7 @@ fn cut_by<S: ClockSet>(a: &S, cell: &Cell) -> Result<S, Slip>
 
 // The closed form of these readings.
 fn cut_closed_by<S: ClockSet>(a: &S, cell: &Cell) -> Result<S, Slip>
-    ensures { result ≡ closed_form calls (cut_by calls cell.now a.now) }
+    ensures { result ≡ closed_form S.calls (cut_by S.calls cell.now a.now) }
 {
     let gaps = gaps_of(cell);
     a.cut_closed(&gaps.list[..gaps.count])
@@ -56,14 +56,14 @@ pub fn target_of(model: &Model, c: usize, step: Move) -> usize
 }
 
 fn leave<S: ClockSet>(inside: Result<S, Slip>, exits: u8) -> Result<S, Slip>
-    ensures { result ≡ (inside ⨾ λ a. calls.reset a exits) }
+    ensures { result ≡ (inside ⨾ λ a. S.calls.reset a exits) }
 {
     inside?.reset(exits)
 }
 
 // What the steps out of the entry's cell go on from.
 pub fn depart<S: ClockSet>(model: &Model, from: &Entry<S>) -> Departure<S>
-    ensures { result ≡ departure calls (plan_of model.now) from.now }
+    ensures { result ≡ departure S.calls (plan_of model.now) from.now }
 {
     let cell = model.cell(from.cell as usize);
     let inside = cut_by(&from.set, &cell);
@@ -104,21 +104,21 @@ impl<S: ClockSet> Departure<S> {
 
 // What a step out of the entry's cell makes of its set.
 pub fn image_of<S: ClockSet>(model: &Model, from: &Entry<S>, step: Move) -> Result<S, Slip>
-    ensures { result ≡ image calls (plan_of model.now) from.now.cell from.now.set step }
+    ensures { result ≡ image S.calls (plan_of model.now) from.now.cell from.now.set step }
 {
     depart(model, from).image(model, from.cell as usize, step)
 }
 
 // The opening of every run.
 pub fn opening_image<S: ClockSet>(model: &Model) -> Result<S, Slip>
-    ensures { result ≡ opening_image calls (plan_of model.now) }
+    ensures { result ≡ opening_image S.calls (plan_of model.now) }
 {
     cut_by(&S::zero(), &model.cell(model.first))
 }
 
 // The closed form of this.
 pub fn closed_opening_image<S: ClockSet>(model: &Model) -> Result<S, Slip>
-    ensures { result ≡ closed_form calls (opening_image calls (plan_of model.now)) }
+    ensures { result ≡ closed_form S.calls (opening_image S.calls (plan_of model.now)) }
 {
     cut_closed_by(&S::zero(), &model.cell(model.first))
 }

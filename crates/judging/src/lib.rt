@@ -39,7 +39,7 @@ use wire::trail::TrailFile;
 
 // All readings, cut by the gaps in their order.
 fn set_of<S: ClockSet>(gaps: &[Gap]) -> Result<S, Slip>
-    ensures { result ≡ cut_all calls gaps.now calls.all }
+    ensures { result ≡ cut_all S.calls gaps.now S.calls.all }
 {
     S::all().cut(gaps)
 }
@@ -51,7 +51,7 @@ fn lodge_entry<S: ClockSet>(
     marks: &mut [u16],
     entry: &CoverEntry,
 ) -> Result<(), Slip>
-    ensures* { λ r. ⌜ (cut_all calls (entry_seen entry.now).1 calls.all ⨾ λ a. unless_refused calls (lodged calls (plan_of model.now) (entry_seen entry.now).0 a (world entries.old marks.old docket.old))) ≡ (r ⨾ λ _. Ok (world entries.new marks.new docket.new)) ⌝ }
+    ensures { (cut_all S.calls (entry_seen entry.now).1 S.calls.all ⨾ λ a. unless_refused S.calls (lodged S.calls (plan_of model.now) (entry_seen entry.now).0 a (world entries.old marks.old docket.old))) ≡ (result ⨾ λ _. Ok (world entries.new marks.new docket.new)) }
 {
     let set: S = set_of(&entry.gaps)?;
     docket.lodge(model, entries, marks, entry.cell, &set)?;
@@ -65,7 +65,7 @@ fn lodge_all<S: ClockSet>(
     marks: &mut [u16],
     cover: &[CoverEntry],
 ) -> Result<(), Slip>
-    ensures* { λ r. ⌜ lodge_all calls (plan_of model.now) (map entry_seen cover.now) (world entries.old marks.old docket.old) ≡ (r ⨾ λ _. Ok (world entries.new marks.new docket.new)) ⌝ }
+    ensures { lodge_all S.calls (plan_of model.now) (map entry_seen cover.now) (world entries.old marks.old docket.old) ≡ (result ⨾ λ _. Ok (world entries.new marks.new docket.new)) }
 {
     for entry in cover {
         lodge_entry(docket, model, entries, marks, entry)?;
@@ -85,7 +85,7 @@ fn take_step<S: ClockSet>(docket: &mut Docket, model: &Model, step: Step) -> Res
 }
 
 fn take_steps<S: ClockSet>(docket: &mut Docket, model: &Model, steps: &[Step]) -> Result<(), Slip>
-    ensures* { λ r. ⌜ ((rows : List (Entry S)) (n : ℕ) (marks : List ℕ) → step_all calls (plan_of model.now) steps.now (world_of rows n marks docket.old) ≡ (r ⨾ λ _. Ok (world_of rows n marks docket.new))) ⌝ }
+    ensures { ((rows : List (Entry S)) (n : ℕ) (marks : List ℕ) → step_all S.calls (plan_of model.now) steps.now (world_of rows n marks docket.old) ≡ (result ⨾ λ _. Ok (world_of rows n marks docket.new))) }
 {
     for step in steps {
         take_step::<S>(docket, model, *step)?;
@@ -95,7 +95,7 @@ fn take_steps<S: ClockSet>(docket: &mut Docket, model: &Model, steps: &[Step]) -
 
 // The trail of a file, from its setting out on.
 fn walk_file<S: ClockSet>(docket: &mut Docket, model: &Model, file: &TrailFile) -> Result<(), Slip>
-    ensures* { λ r. ⌜ ((rows : List (Entry S)) (n : ℕ) (marks : List ℕ) → walk_all calls (plan_of model.now) (trail_seen file.now) (world_of rows n marks docket.old) ≡ (r ⨾ λ _. Ok (world_of rows n marks docket.new))) ⌝ }
+    ensures { ((rows : List (Entry S)) (n : ℕ) (marks : List ℕ) → walk_all S.calls (plan_of model.now) (trail_seen file.now) (world_of rows n marks docket.old) ≡ (result ⨾ λ _. Ok (world_of rows n marks docket.new))) }
 {
     docket.set_out(model, file.scale)?;
     take_steps::<S>(docket, model, &file.steps)
@@ -107,7 +107,7 @@ fn walk_bytes<S: ClockSet>(
     model: &Model,
     bytes: &[u8],
 ) -> Result<(), Fault>
-    ensures { (rows : List (Entry S)) (n : ℕ) (marks : List ℕ) → Gives (λ _. world_of rows n marks docket.new) result (trail_file bytes.now ⨾ λ f. walk_all calls (plan_of model.now) f (world_of rows n marks docket.old)) }
+    ensures { (rows : List (Entry S)) (n : ℕ) (marks : List ℕ) → Gives (λ _. world_of rows n marks docket.new) result (trail_file bytes.now ⨾ λ f. walk_all S.calls (plan_of model.now) f (world_of rows n marks docket.old)) }
 {
     let file = trail_file(heap, bytes)?;
     walk_file::<S>(docket, model, &file)?;
@@ -121,7 +121,7 @@ fn note_verdict<S: ClockSet>(
     entries: &Entries<S>,
     marks: &[u16],
 ) -> Result<(), AllocError>
-    ensures { OnOk result (lines.new.items ≡ lines.old.items ++ verdict_lines calls (plan_of model.now) (world entries.now marks.now docket.now)) }
+    ensures { OnOk result (lines.new.items ≡ lines.old.items ++ verdict_lines S.calls (plan_of model.now) (world entries.now marks.now docket.now)) }
 {
     lines.push(Line::Verdict(docket.verdict(model, entries, marks)))?;
     Ok(())
@@ -154,7 +154,7 @@ fn judge_walk<S: ClockSet>(
     marks: &[u16],
     bytes: &[u8],
 ) -> Result<(), AllocError>
-    ensures { OnOk result (lines.new.items ≡ lines.old.items ++ trail_lines calls (plan_of model.now) (Some bytes.now) (world entries.now marks.now docket.old)) }
+    ensures { OnOk result (lines.new.items ≡ lines.old.items ++ trail_lines S.calls (plan_of model.now) (Some bytes.now) (world entries.now marks.now docket.old)) }
 {
     match walk_bytes::<S>(heap, docket, model, bytes) {
         Ok(()) => {
@@ -176,7 +176,7 @@ fn judge_no_walk<S: ClockSet>(
     entries: &Entries<S>,
     marks: &[u16],
 ) -> Result<(), AllocError>
-    ensures { OnOk result (lines.new.items ≡ lines.old.items ++ trail_lines calls (plan_of model.now) None (world entries.now marks.now docket.now)) }
+    ensures { OnOk result (lines.new.items ≡ lines.old.items ++ trail_lines S.calls (plan_of model.now) None (world entries.now marks.now docket.now)) }
 {
     lines.push(Line::NoTrail)?;
     note_verdict(lines, docket, model, entries, marks)?;
@@ -192,7 +192,7 @@ fn judge_trail<S: ClockSet>(
     marks: &[u16],
     trail: &Option<Vec<u8>>,
 ) -> Result<(), AllocError>
-    ensures { OnOk result (lines.new.items ≡ lines.old.items ++ trail_lines calls (plan_of model.now) (option_map vec_items trail.now) (world entries.now marks.now docket.old)) }
+    ensures { OnOk result (lines.new.items ≡ lines.old.items ++ trail_lines S.calls (plan_of model.now) (option_map vec_items trail.now) (world entries.now marks.now docket.old)) }
 {
     match trail {
         Some(bytes) => judge_walk(heap, lines, docket, model, entries, marks, bytes)?,
@@ -211,7 +211,7 @@ fn judge_swept<S: ClockSet>(
     marks: &mut [u16],
     trail: &Option<Vec<u8>>,
 ) -> Result<(), AllocError>
-    ensures { OnOk result (lines.new.items ≡ lines.old.items ++ swept_lines calls (plan_of model.now) (option_map vec_items trail.now) (world entries.now marks.old docket.old)) }
+    ensures { OnOk result (lines.new.items ≡ lines.old.items ++ swept_lines S.calls (plan_of model.now) (option_map vec_items trail.now) (world entries.now marks.old docket.old)) }
 {
     let duties = entries.duties(model);
     let open = docket.sweep(model, entries, marks);
@@ -235,7 +235,7 @@ fn judge_cover<S: ClockSet>(
     cover: &[CoverEntry],
     trail: &Option<Vec<u8>>,
 ) -> Result<(), AllocError>
-    ensures { OnOk result (lines.new.items ≡ lines.old.items ++ lodged_lines calls (plan_of model.now) (option_map vec_items trail.now) (lodge_all calls (plan_of model.now) (map entry_seen cover.now) (world entries.old marks.old docket.old))) }
+    ensures { OnOk result (lines.new.items ≡ lines.old.items ++ lodged_lines S.calls (plan_of model.now) (option_map vec_items trail.now) (lodge_all S.calls (plan_of model.now) (map entry_seen cover.now) (world entries.old marks.old docket.old))) }
 {
     match lodge_all(docket, model, entries, marks, cover) {
         Ok(()) => judge_swept(heap, lines, docket, model, entries, marks, trail)?,
@@ -263,7 +263,7 @@ fn judge_entries<S: ClockSet>(
     cover: &[CoverEntry],
     trail: &Option<Vec<u8>>,
 ) -> Result<(), AllocError>
-    ensures { OnOk result (lines.new.items ≡ lines.old.items ++ lodged_lines calls (plan_of model.now) (option_map vec_items trail.now) (lodge_all calls (plan_of model.now) (map entry_seen cover.now) (begun calls))) }
+    ensures { OnOk result (lines.new.items ≡ lines.old.items ++ lodged_lines S.calls (plan_of model.now) (option_map vec_items trail.now) (lodge_all S.calls (plan_of model.now) (map entry_seen cover.now) (begun S.calls))) }
 {
     let mut rows = full_table(
         heap,
@@ -297,7 +297,7 @@ fn judge_bytes<S: ClockSet>(
     bytes: &[u8],
     trail: &Option<Vec<u8>>,
 ) -> Result<(), AllocError>
-    ensures { OnOk result (lines.new.items ≡ lines.old.items ++ lodged_lines calls (plan_of model.now) (option_map vec_items trail.now) (cover_file bytes.now ⨾ λ es. lodge_all calls (plan_of model.now) es (begun calls))) }
+    ensures { OnOk result (lines.new.items ≡ lines.old.items ++ lodged_lines S.calls (plan_of model.now) (option_map vec_items trail.now) (cover_file bytes.now ⨾ λ es. lodge_all S.calls (plan_of model.now) es (begun S.calls))) }
 {
     match cover_file(heap, bytes) {
         Ok(file) => judge_entries::<S>(heap, lines, model, &file.entries, trail)?,
@@ -316,7 +316,7 @@ fn judge_nothing<S: ClockSet>(
     model: &Model,
     trail: &Option<Vec<u8>>,
 ) -> Result<(), AllocError>
-    ensures { OnOk result (lines.new.items ≡ lines.old.items ++ lodged_lines calls (plan_of model.now) (option_map vec_items trail.now) (Ok (begun calls))) }
+    ensures { OnOk result (lines.new.items ≡ lines.old.items ++ lodged_lines S.calls (plan_of model.now) (option_map vec_items trail.now) (Ok (begun S.calls))) }
 {
     let none: Vec<CoverEntry> = Vec::new(heap);
     judge_entries::<S>(heap, lines, model, &none, trail)?;
@@ -329,7 +329,7 @@ fn judge_model<S: ClockSet>(
     cover: &Option<Vec<u8>>,
     trail: &Option<Vec<u8>>,
 ) -> Result<Vec<Line>, AllocError>
-    ensures { IfOk result (λ v. v.items ≡ plan_lines calls (option_map vec_items cover.now) (option_map vec_items trail.now) (Ok (plan_of model.now))) }
+    ensures { IfOk result (λ v. v.items ≡ plan_lines S.calls (option_map vec_items cover.now) (option_map vec_items trail.now) (Ok (plan_of model.now))) }
 {
     let mut lines = Vec::new(heap);
     lines.push(Line::Cells(model.cells.len()))?;
@@ -348,7 +348,7 @@ pub fn judge<S: ClockSet>(
     trail: &Option<Vec<u8>>,
 ) -> Result<Vec<Line>, AllocError>
     ensures shut { IfOk result (λ v. (m : Plan) → read_plan model.now ≡ Ok m → (i : ℕ) → slice_get v.items i ≡ Some (Verdict Shut) → Unreachable m) }
-    ensures lines { IfOk result (λ v. v.items ≡ judge_lines calls model.now (option_map vec_items cover.now) (option_map vec_items trail.now)) }
+    ensures lines { IfOk result (λ v. v.items ≡ judge_lines S.calls model.now (option_map vec_items cover.now) (option_map vec_items trail.now)) }
 {
     match read_model(heap, model) {
         Ok(model) => judge_model::<S>(heap, &model, cover, trail),
@@ -368,7 +368,7 @@ pub fn judge_text<S: ClockSet>(
     cover: &Option<Vec<u8>>,
     trail: &Option<Vec<u8>>,
 ) -> Result<String, AllocError>
-    ensures { IfOk result (λ t. string_bytes t ≡ lines_text (judge_lines calls model.now (option_map vec_items cover.now) (option_map vec_items trail.now))) }
+    ensures { IfOk result (λ t. string_bytes t ≡ lines_text (judge_lines S.calls model.now (option_map vec_items cover.now) (option_map vec_items trail.now))) }
 {
     let lines = judge::<S>(heap, model, cover, trail)?;
     text_of_all(heap, &lines)

@@ -28,7 +28,7 @@ pub fn cut<W: Weight>(m: &mut [W], i: usize, j: usize, weight: W)
     requires long { length m.old ≡ 49 }
     requires row { i < 7 }
     requires column { j < 7 }
-    ensures { (x y : ℕ) → x < 7 → y < 7 → cell unbounded (map value m.new) x y ≡ cut_weights leb plus neutral unbounded hopeless (cell unbounded (map value m.old)) i j (value weight) x y }
+    ensures { (x y : ℕ) → x < 7 → y < 7 → cell W.unbounded (map W.value m.new) x y ≡ cut_weights W.leb W.plus W.neutral W.unbounded W.hopeless (cell W.unbounded (map W.value m.old)) i j (W.value weight) x y }
 {
     m[7 * i + j] = m[7 * i + j].lesser_of(weight);
 }
@@ -36,7 +36,7 @@ pub fn cut<W: Weight>(m: &mut [W], i: usize, j: usize, weight: W)
 // Row 0 and the diagonal to at most neutral: no count is below zero, and no clock differs from itself.
 pub fn tighten<W: Weight>(m: &mut [W])
     requires { length m.old ≡ 49 }
-    ensures { map value m.new ≡ tabled (tight leb plus neutral unbounded hopeless (cell unbounded (map value m.old))) }
+    ensures { map W.value m.new ≡ tabled (tight W.leb W.plus W.neutral W.unbounded W.hopeless (cell W.unbounded (map W.value m.old))) }
 {
     for k in 0..7 {
         cut(m, 0, k, W::neutral_weight());
@@ -47,10 +47,10 @@ pub fn tighten<W: Weight>(m: &mut [W])
 // Brings a set to its closed form; false where it has no reading, and the set is then the one empty form.
 pub fn canonicalize<W: Weight>(m: &mut [W]) -> bool
     requires long { length m.old ≡ 49 }
-    requires room { Within size unbounded (2 ^ 22) (map value m.old) }
-    requires start { size neutral ≤ 2 ^ 22 }
-    ensures computed { canonical_form leb plus neutral unbounded hopeless (map value m.old) ≡ (if result then Some (map value m.new) else None) }
-    ensures emptied { result ≡ false → map value m.new ≡ empty_form hopeless }
+    requires room { Within W.size W.unbounded (2 ^ 22) (map W.value m.old) }
+    requires start { W.size W.neutral ≤ 2 ^ 22 }
+    ensures computed { canonical_form W.leb W.plus W.neutral W.unbounded W.hopeless (map W.value m.old) ≡ (if result then Some (map W.value m.new) else None) }
+    ensures emptied { result ≡ false → map W.value m.new ≡ empty_form W.hopeless }
 {
     tighten(m);
     close(m)
@@ -76,7 +76,7 @@ fn home(mask: u8, i: usize) -> usize
 fn reset<W: Weight>(from: &[W], mask: u8, to: &mut [W])
     requires source { length from.now ≡ 49 }
     requires long { length to.old ≡ 49 }
-    ensures { map value to.new ≡ tabled (λ i j. cell unbounded (map value from.now) (home_of (in_mask mask) i) (home_of (in_mask mask) j)) }
+    ensures { map W.value to.new ≡ tabled (λ i j. cell W.unbounded (map W.value from.now) (home_of (in_mask mask) i) (home_of (in_mask mask) j)) }
 {
     for p in 0..49 {
         to[p] = from[7 * home(mask, p / 7) + home(mask, p % 7)];
@@ -86,8 +86,8 @@ fn reset<W: Weight>(from: &[W], mask: u8, to: &mut [W])
 // Time goes on from a closed form: the clocks lose their upper bounds.
 fn delay<W: Weight>(m: &mut [W], free: W)
     requires long { length m.old ≡ 49 }
-    requires lets { value free ≡ unbounded }
-    ensures { map value m.new ≡ tabled (λ i j. (if not (i == 0) && j == 0 then unbounded else cell unbounded (map value m.old) i j)) }
+    requires lets { W.value free ≡ W.unbounded }
+    ensures { map W.value m.new ≡ tabled (λ i j. (if not (i == 0) && j == 0 then W.unbounded else cell W.unbounded (map W.value m.old) i j)) }
 {
     for i in 1..7 {
         m[7 * i] = free;
@@ -98,7 +98,7 @@ fn delay<W: Weight>(m: &mut [W], free: W)
 fn is_beneath<W: Weight>(low: &[W], high: &[W]) -> bool
     requires low { length low.now ≡ 49 }
     requires high { length high.now ≡ 49 }
-    ensures { result ≡ beneath_all leb plus neutral unbounded hopeless (map value low.now) (map value high.now) }
+    ensures { result ≡ beneath_all W.leb W.plus W.neutral W.unbounded W.hopeless (map W.value low.now) (map W.value high.now) }
 {
     for p in 0..49 {
         if !low[p].at_most(high[p]) {
@@ -113,10 +113,10 @@ pub fn cut_form<W: Weight>(m: &mut [W], i: usize, j: usize, weight: W)
     requires long { length m.old ≡ 49 }
     requires row { i < 7 }
     requires column { j < 7 }
-    requires room { Within size unbounded (2 ^ 22) (map value m.old) }
-    requires small { size (value weight) ≤ 2 ^ 22 }
-    requires start { size neutral ≤ 2 ^ 22 }
-    ensures { map value m.new ≡ cut_form leb plus neutral unbounded hopeless (map value m.old) i j (value weight) }
+    requires room { Within W.size W.unbounded (2 ^ 22) (map W.value m.old) }
+    requires small { W.size (W.value weight) ≤ 2 ^ 22 }
+    requires start { W.size W.neutral ≤ 2 ^ 22 }
+    ensures { map W.value m.new ≡ cut_form W.leb W.plus W.neutral W.unbounded W.hopeless (map W.value m.old) i j (W.value weight) }
 {
     cut(m, i, j, weight);
     canonicalize(m);
@@ -126,10 +126,10 @@ pub fn cut_form<W: Weight>(m: &mut [W], i: usize, j: usize, weight: W)
 pub fn reset_form<W: Weight>(from: &mut [W], mask: u8, to: &mut [W])
     requires source { length from.old ≡ 49 }
     requires long { length to.old ≡ 49 }
-    requires room { Within size unbounded (2 ^ 22) (map value from.old) }
-    requires start { size neutral ≤ 2 ^ 22 }
-    ensures made { map value to.new ≡ reset_form leb plus neutral unbounded hopeless (in_mask mask) (map value from.old) }
-    ensures closed { map value from.new ≡ or_empty leb plus neutral unbounded hopeless (canonical_form leb plus neutral unbounded hopeless (map value from.old)) }
+    requires room { Within W.size W.unbounded (2 ^ 22) (map W.value from.old) }
+    requires start { W.size W.neutral ≤ 2 ^ 22 }
+    ensures made { map W.value to.new ≡ reset_form W.leb W.plus W.neutral W.unbounded W.hopeless (in_mask mask) (map W.value from.old) }
+    ensures closed { map W.value from.new ≡ or_empty W.leb W.plus W.neutral W.unbounded W.hopeless (canonical_form W.leb W.plus W.neutral W.unbounded W.hopeless (map W.value from.old)) }
 {
     canonicalize(from);
     reset(from, mask, to);
@@ -138,10 +138,10 @@ pub fn reset_form<W: Weight>(from: &mut [W], mask: u8, to: &mut [W])
 // Time goes on.
 pub fn delay_form<W: Weight>(m: &mut [W], free: W)
     requires long { length m.old ≡ 49 }
-    requires room { Within size unbounded (2 ^ 22) (map value m.old) }
-    requires start { size neutral ≤ 2 ^ 22 }
-    requires lets { value free ≡ unbounded }
-    ensures { map value m.new ≡ delay_form leb plus neutral unbounded hopeless (map value m.old) }
+    requires room { Within W.size W.unbounded (2 ^ 22) (map W.value m.old) }
+    requires start { W.size W.neutral ≤ 2 ^ 22 }
+    requires lets { W.value free ≡ W.unbounded }
+    ensures { map W.value m.new ≡ delay_form W.leb W.plus W.neutral W.unbounded W.hopeless (map W.value m.old) }
 {
     if canonicalize(m) {
         delay(m, free);
@@ -152,10 +152,10 @@ pub fn delay_form<W: Weight>(m: &mut [W], free: W)
 pub fn within_form<W: Weight>(low: &mut [W], high: &[W]) -> bool
     requires low { length low.old ≡ 49 }
     requires high { length high.now ≡ 49 }
-    requires room { Within size unbounded (2 ^ 22) (map value low.old) }
-    requires start { size neutral ≤ 2 ^ 22 }
-    ensures says { result ≡ within_form leb plus neutral unbounded hopeless (map value low.old) (map value high.now) }
-    ensures closed { map value low.new ≡ or_empty leb plus neutral unbounded hopeless (canonical_form leb plus neutral unbounded hopeless (map value low.old)) }
+    requires room { Within W.size W.unbounded (2 ^ 22) (map W.value low.old) }
+    requires start { W.size W.neutral ≤ 2 ^ 22 }
+    ensures says { result ≡ within_form W.leb W.plus W.neutral W.unbounded W.hopeless (map W.value low.old) (map W.value high.now) }
+    ensures closed { map W.value low.new ≡ or_empty W.leb W.plus W.neutral W.unbounded W.hopeless (canonical_form W.leb W.plus W.neutral W.unbounded W.hopeless (map W.value low.old)) }
 {
     if canonicalize(low) {
         is_beneath(low, high)

@@ -8,7 +8,7 @@ use crate::Weight;
 fn row_of<W: Weight>(m: &[W], k: usize) -> [W; 7]
     requires long { length m.now ≡ 49 }
     requires place { k < 7 }
-    ensures { (j : ℕ) → j < 7 → slice_index_or (map value result) j unbounded ≡ cell unbounded (map value m.now) k j }
+    ensures { (j : ℕ) → j < 7 → slice_index_or (map W.value result) j W.unbounded ≡ cell W.unbounded (map W.value m.now) k j }
 {
     let at = 7 * k;
     [
@@ -27,8 +27,8 @@ fn relax_row<W: Weight>(m: &mut [W], row: &[W; 7], k: usize, i: usize)
     requires long { length m.old ≡ 49 }
     requires place { i < 7 }
     requires via { k < 7 }
-    requires room { (j : ℕ) → j < 7 → size (cell unbounded (map value m.old) i k) + size (slice_index_or (map value row.now) j unbounded) ≤ 2 ^ 29 }
-    ensures { (x y : ℕ) → x < 7 → y < 7 → cell unbounded (map value m.new) x y ≡ (if nat_eq x i then relaxed leb plus (cell unbounded (map value m.old)) (λ j. get_or (map value row.now) j unbounded) k x y else cell unbounded (map value m.old) x y) }
+    requires room { (j : ℕ) → j < 7 → W.size (cell W.unbounded (map W.value m.old) i k) + W.size (slice_index_or (map W.value row.now) j W.unbounded) ≤ 2 ^ 29 }
+    ensures { (x y : ℕ) → x < 7 → y < 7 → cell W.unbounded (map W.value m.new) x y ≡ (if nat_eq x i then relaxed W.leb W.plus (cell W.unbounded (map W.value m.old)) (λ j. get_or (map W.value row.now) j W.unbounded) k x y else cell W.unbounded (map W.value m.old) x y) }
 {
     let via = m[7 * i + k];
     for j in 0..7 {
@@ -40,8 +40,8 @@ fn relax_row<W: Weight>(m: &mut [W], row: &[W; 7], k: usize, i: usize)
 fn pass<W: Weight>(m: &mut [W], k: usize)
     requires long { length m.old ≡ 49 }
     requires via { k < 7 }
-    requires room { Within size unbounded (2 ^ 28) (map value m.old) }
-    ensures { map value m.new ≡ one_pass leb plus unbounded k (map value m.old) }
+    requires room { Within W.size W.unbounded (2 ^ 28) (map W.value m.old) }
+    ensures { map W.value m.new ≡ one_pass W.leb W.plus W.unbounded k (map W.value m.old) }
 {
     let row = row_of(m, k);
     for i in 0..7 {
@@ -52,14 +52,14 @@ fn pass<W: Weight>(m: &mut [W], k: usize)
 fn is_sound_at<W: Weight>(m: &[W], k: usize) -> bool
     requires long { length m.now ≡ 49 }
     requires place { k < 7 }
-    ensures { result ≡ leb neutral (cell unbounded (map value m.now) k k) }
+    ensures { result ≡ W.leb W.neutral (cell W.unbounded (map W.value m.now) k k) }
 {
     W::neutral_weight().at_most(m[7 * k + k])
 }
 
 fn is_sound<W: Weight>(m: &[W]) -> bool
     requires { length m.now ≡ 49 }
-    ensures { result ≡ sound_below leb neutral (cell unbounded (map value m.now)) 7 }
+    ensures { result ≡ sound_below W.leb W.neutral (cell W.unbounded (map W.value m.now)) 7 }
 {
     for k in 0..7 {
         if !is_sound_at(m, k) {
@@ -72,8 +72,8 @@ fn is_sound<W: Weight>(m: &[W]) -> bool
 // The seven passes, up to the first place that is below neutral against itself.
 fn run_passes<W: Weight>(m: &mut [W]) -> bool
     requires long { length m.old ≡ 49 }
-    requires room { Within size unbounded (2 ^ 22) (map value m.old) }
-    ensures { closing leb plus neutral unbounded (map value m.old) ≡ (if result then Some (map value m.new) else None) }
+    requires room { Within W.size W.unbounded (2 ^ 22) (map W.value m.old) }
+    ensures { closing W.leb W.plus W.neutral W.unbounded (map W.value m.old) ≡ (if result then Some (map W.value m.new) else None) }
 {
     for k in 0..7 {
         if !is_sound_at(m, k) {
@@ -86,7 +86,7 @@ fn run_passes<W: Weight>(m: &mut [W]) -> bool
 
 fn wipe<W: Weight>(m: &mut [W], weight: W)
     requires { length m.old ≡ 49 }
-    ensures { map value m.new ≡ empty_form (value weight) }
+    ensures { map W.value m.new ≡ empty_form (W.value weight) }
 {
     for x in m.iter_mut() {
         *x = weight;
@@ -97,11 +97,11 @@ fn wipe<W: Weight>(m: &mut [W], weight: W)
 // sums below neutral, and every weight is then hopeless, so that all such matrices have one form.
 pub fn close<W: Weight>(m: &mut [W]) -> bool
     requires long { length m.old ≡ 49 }
-    requires room { Within size unbounded (2 ^ 22) (map value m.old) }
-    ensures computed { closing leb plus neutral unbounded (map value m.old) ≡ (if result then Some (map value m.new) else None) }
-    ensures closed { MatchBool result (ClosedForm leb plus neutral (cell unbounded (map value m.old)) (cell unbounded (map value m.new))) (Falling leb plus neutral (cell unbounded (map value m.old))) }
-    ensures sizes { result ≡ true → Within size unbounded (2 ^ 29) (map value m.new) }
-    ensures emptied { result ≡ false → map value m.new ≡ empty_form hopeless }
+    requires room { Within W.size W.unbounded (2 ^ 22) (map W.value m.old) }
+    ensures computed { closing W.leb W.plus W.neutral W.unbounded (map W.value m.old) ≡ (if result then Some (map W.value m.new) else None) }
+    ensures closed { MatchBool result (ClosedForm W.leb W.plus W.neutral (cell W.unbounded (map W.value m.old)) (cell W.unbounded (map W.value m.new))) (Falling W.leb W.plus W.neutral (cell W.unbounded (map W.value m.old))) }
+    ensures sizes { result ≡ true → Within W.size W.unbounded (2 ^ 29) (map W.value m.new) }
+    ensures emptied { result ≡ false → map W.value m.new ≡ empty_form W.hopeless }
 {
     if run_passes(m) {
         true

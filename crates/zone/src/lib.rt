@@ -122,7 +122,7 @@ fn refused() -> Slip
 // One more bound by a gap, and nothing closed yet.
 fn cut_raw(m: &mut [Bound], gap: Gap) -> Result<(), Slip>
     requires { length m.old ≡ 49 }
-    ensures* { λ r. ⌜ raw_cut gap (map limit_of m.old) ≡ (r ⨾ λ _. Ok (map limit_of m.new)) ⌝ }
+    ensures { raw_cut gap (map limit_of m.old) ≡ (result ⨾ λ _. Ok (map limit_of m.new)) }
 {
     if !is_good_gap(gap) {
         return Err(refused());
@@ -133,7 +133,7 @@ fn cut_raw(m: &mut [Bound], gap: Gap) -> Result<(), Slip>
 
 fn cut_all_raw(m: &mut [Bound], gaps: &[Gap]) -> Result<(), Slip>
     requires { length m.old ≡ 49 }
-    ensures* { λ r. ⌜ raw_cuts gaps.now (map limit_of m.old) ≡ (r ⨾ λ _. Ok (map limit_of m.new)) ⌝ }
+    ensures { raw_cuts gaps.now (map limit_of m.old) ≡ (result ⨾ λ _. Ok (map limit_of m.new)) }
 {
     for gap in gaps {
         cut_raw(m, *gap)?;

@@ -3,13 +3,13 @@ use Rattle.std.proofs.lemmas.Bool.{both_ways}
 use Rattle.weight.proofs.Matrix.{closing_closed, closing_falling, closing_room}
 use Rattle.weight.proofs.closing.close.Goals as goal
 
-pub returns-then-run-passes : goal.returns-then-run-passes
-returns-then-run-passes g c =
+pub returns-then-run_passes : goal.returns-then-run_passes
+returns-then-run_passes g c =
     let w = g.W.Weight in
     let laws = g.met.W.Weight.laws in
     let xs = map w.value c.args.m.now in
-    let ys = map w.value c.run-passes.new.m in
-    let some = c.if-run-passes.ensures in
+    let ys = map w.value c.run_passes.new.m in
+    let some = c.if-run_passes.ensures in
     record {
       computed = some;
       closed = closing_closed laws w.unbounded xs ys some;
@@ -17,10 +17,10 @@ returns-then-run-passes g c =
       emptied = λ e. absurd (both_ways _ e refl);
     }
 
-pub returns-else-run-passes : goal.returns-else-run-passes
-returns-else-run-passes g c =
+pub returns-else-run_passes : goal.returns-else-run_passes
+returns-else-run_passes g c =
     let w = g.W.Weight in
-    let none = c.if-run-passes.ensures in
+    let none = c.if-run_passes.ensures in
     record {
       computed = none;
       closed = closing_falling g.met.W.Weight.laws w.unbounded (map w.value c.args.m.now) none;

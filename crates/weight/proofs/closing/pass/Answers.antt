@@ -5,8 +5,8 @@ use Rattle.weight.proofs.Matrix.{one_pass_from}
 use Rattle.weight.proofs.Rows.{row_fits, rows_ahead, rows_more, rows_all}
 use Rattle.weight.proofs.closing.pass.Goals as goal
 
-pub relax-row-requires : goal.relax-row-requires
-relax-row-requires g c =
+pub relax_row-requires : goal.relax_row-requires
+relax_row-requires g c =
     let w = g.W.Weight in
     let old = cell w.unbounded (map w.value c.args.m.now) in
     let d = cell w.unbounded (map w.value c.loop-i.m) in
@@ -15,14 +15,14 @@ relax-row-requires g c =
     let hi : i < 7 = omega arith in
     let hk = c.requires.via in
     let via = rows_ahead w.leb w.plus old k hk d i k c.loop-i.invariant hi hk in (
-      row_fits _ _ c.requires.long c.well-formed.0.1,
+      row_fits _ _ c.requires.long c.well_formed.0.1,
       (
         omega arith,
         (
           hi,
           (
             hk,
-            λ j hj. rw (via, c.row-of-row.ensures j hj) (omega (arith, c.requires.room i k hi hk, c.requires.room k j hk hj)),
+            λ j hj. rw (via, c.row_of-row.ensures j hj) (omega (arith, c.requires.room i k hi hk, c.requires.room k j hk hj)),
           ),
         ),
       ),
@@ -33,10 +33,10 @@ loop-i-preserved g c =
     let w = g.W.Weight in
     let old = cell w.unbounded (map w.value c.args.m.now) in
     let d = cell w.unbounded (map w.value c.loop-i.m) in
-    let e = cell w.unbounded (map w.value c.relax-row.new.m) in
-    let row : ℕ → w.Value = λ y. get_or (map w.value c.row-of-row.result) y w.unbounded in
+    let e = cell w.unbounded (map w.value c.relax_row.new.m) in
+    let row : ℕ → w.Value = λ y. get_or (map w.value c.row_of-row.result) y w.unbounded in
     let hi : c.loop-i.i < 7 = omega arith in
-    rows_more w.leb w.plus old c.args.k c.requires.via d e row c.loop-i.i hi c.loop-i.invariant c.row-of-row.ensures c.relax-row.ensures
+    rows_more w.leb w.plus old c.args.k c.requires.via d e row c.loop-i.i hi c.loop-i.invariant c.row_of-row.ensures c.relax_row.ensures
 
 pub returns : goal.returns
 returns g c =

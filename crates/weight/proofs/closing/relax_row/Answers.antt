@@ -29,9 +29,9 @@ loop-j-preserved g c =
     let next = get_or-map w.value c.args.row.now j c.index-row-j.result w.unbounded (omega arith) in
     let here = read_value w.value w.unbounded c.loop-j.m (7 * i + j) c.index-m-i-in-loop-j.result (omega arith) c.index-m-i-in-loop-j.is ∙ ahead in
     let long : length xs ≡ 49 = simp length-map (omega arith) in
-    let new : w.value c.lesser-of.result ≡ relaxed w.leb w.plus old row k i j = cc in
-    row_more w.leb w.plus old row k i hi w.unbounded xs _ j (w.value c.lesser-of.result) long hj c.loop-j.invariant new
-    (map-set w.value c.loop-j.m (7 * i + j) c.lesser-of.result)
+    let new : w.value c.lesser_of.result ≡ relaxed w.leb w.plus old row k i j = cc in
+    row_more w.leb w.plus old row k i hi w.unbounded xs _ j (w.value c.lesser_of.result) long hj c.loop-j.invariant new
+    (map-set w.value c.loop-j.m (7 * i + j) c.lesser_of.result)
 
 pub returns : goal.returns
 returns g c =

@@ -27,15 +27,15 @@ loop-k-preserved g c =
     let turn : passes w.leb w.plus w.unbounded (k + 1) xs ≡ one_pass w.leb w.plus w.unbounded k (passes w.leb w.plus w.unbounded k xs) = rw add-one refl in
     c.pass.ensures ∙ ap (one_pass w.leb w.plus w.unbounded k) c.loop-k.invariant ∙ sym turn
 
-pub returns-then-not-is-sound-at : goal.returns-then-not-is-sound-at
-returns-then-not-is-sound-at g c =
+pub returns-then-not-is_sound_at : goal.returns-then-not-is_sound_at
+returns-then-not-is_sound_at g c =
     let w = g.W.Weight in
     let k = c.loop-k.k in
-    let less : w.leb w.neutral (cell w.unbounded (map w.value c.loop-k.m) k k) ≡ false = sym c.if-not-is-sound-at.ensures in
+    let less : w.leb w.neutral (cell w.unbounded (map w.value c.loop-k.m) k k) ≡ false = sym c.if-not-is_sound_at.ensures in
     closing_none g.met.W.Weight.laws w.unbounded (map w.value c.args.m.now) k k c.loop-k.auto.k-end c.loop-k-test.true (rw c.loop-k.invariant at less)
 
 pub returns : goal.returns
 returns g c =
     let w = g.W.Weight in
     let k7 : c.loop-k.k ≡ 7 = omega arith in
-    closing_test g.met.W.Weight.laws w.unbounded (map w.value c.args.m.now) (map w.value c.loop-k.m) c.is-sound.result (rw k7 at c.loop-k.invariant) c.is-sound.ensures
+    closing_test g.met.W.Weight.laws w.unbounded (map w.value c.args.m.now) (map w.value c.loop-k.m) c.is_sound.result (rw k7 at c.loop-k.invariant) c.is_sound.ensures
