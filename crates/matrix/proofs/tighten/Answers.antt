@@ -19,8 +19,8 @@ loop-k-preserved g c =
     let e = cell w.unbounded (map w.value c.cut.new.m) in
     let h = cell w.unbounded (map w.value c.cut-in-loop-k.new.m) in
     tight_more w.leb w.neutral old d e h k c.loop-k-test.true c.loop-k.invariant
-    (λ x y hx hy. c.cut.ensures x y hx hy ∙ ap (λ b. cond (eqb x 0 && eqb y k) (lesser w.leb (d x y) b) (d x y)) c.neutral-weight.ensures)
-    (λ x y hx hy. c.cut-in-loop-k.ensures x y hx hy ∙ ap (λ b. cond (eqb x k && eqb y k) (lesser w.leb (e x y) b) (e x y)) c.neutral-weight-in-loop-k.ensures)
+    (λ x y hx hy. c.cut.ensures x y hx hy ∙ ap (λ b. cond (eqb x 0 && eqb y k) (lesser w.leb (d x y) b) (d x y)) c.neutral_weight.ensures)
+    (λ x y hx hy. c.cut-in-loop-k.ensures x y hx hy ∙ ap (λ b. cond (eqb x k && eqb y k) (lesser w.leb (e x y) b) (e x y)) c.neutral_weight-in-loop-k.ensures)
 
 pub returns : goal.returns
 returns g c =

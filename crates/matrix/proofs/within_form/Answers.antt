@@ -8,7 +8,7 @@ returns-then-canonicalize g c =
     let w = g.W.Weight in
     let o = c.if-canonicalize.ensures in
     record {
-      says = c.is-beneath.ensures ∙ sym (ap (λ o. within_of w.leb w.plus w.neutral w.unbounded w.hopeless o (map w.value c.args.high.now)) o.computed);
+      says = c.is_beneath.ensures ∙ sym (ap (λ o. within_of w.leb w.plus w.neutral w.unbounded w.hopeless o (map w.value c.args.high.now)) o.computed);
       closed = formed_is w.leb w.plus w.neutral w.unbounded w.hopeless (map w.value c.args.low.now) (map w.value c.canonicalize.new.m) _ o.computed o.emptied;
     }
 

@@ -10,14 +10,14 @@ loop-gap-init c = refl
 pub loop-gap-preserved : goal.loop-gap-preserved
 loop-gap-preserved c =
     chain_more raw_cuts raw_cut (λ w. refl) (λ x xs w. refl) c.args.gaps.now c.loop-gap.gap-index _ (map limit_of c.loop-gap.m)
-    (map limit_of c.cut-raw.new.m) _ c.loop-gap-test.true c.loop-gap.invariant c.in-ok-cut-raw.ensures
+    (map limit_of c.cut_raw.new.m) _ c.loop-gap-test.true c.loop-gap.invariant c.in_ok-cut_raw.ensures
 
-pub returns-in-err-cut-raw : goal.returns-in-err-cut-raw
-returns-in-err-cut-raw c =
+pub returns-in_err-cut_raw : goal.returns-in_err-cut_raw
+returns-in_err-cut_raw c =
     sym
-    (exit_then _ _ _ c.from-residual.ensures.1
+    (exit_then _ _ _ c.from_residual.ensures.1
     ∙ chain_stop raw_cuts raw_cut (λ w. refl) (λ x xs w. refl) c.args.gaps.now c.loop-gap.gap-index _ (map limit_of c.loop-gap.m) _ _
-    c.loop-gap-test.true c.loop-gap.invariant c.in-err-cut-raw.ensures)
+    c.loop-gap-test.true c.loop-gap.invariant c.in_err-cut_raw.ensures)
 
 pub returns : goal.returns
 returns c =

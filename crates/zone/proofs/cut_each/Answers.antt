@@ -11,14 +11,14 @@ pub loop-gap-preserved : goal.loop-gap-preserved
 loop-gap-preserved c =
     let k = zone_calls in
     chain_more (cut_all k) (λ x a. k.gap a x) (λ w. refl) (λ x xs w. refl) c.args.gaps.now c.loop-gap.gap-index _ c.loop-gap.set
-    c.in-ok-set.set _ c.loop-gap-test.true c.loop-gap.invariant (sym c.in-ok-set.ensures.same)
+    c.in_ok-set.set _ c.loop-gap-test.true c.loop-gap.invariant (sym c.in_ok-set.ensures.same)
 
-pub returns-in-err-set : goal.returns-in-err-set
-returns-in-err-set c =
+pub returns-in_err-set : goal.returns-in_err-set
+returns-in_err-set c =
     let k = zone_calls in
-    exit_is _ _ c.from-residual.ensures.1
+    exit_is _ _ c.from_residual.ensures.1
     ∙ chain_stop (cut_all k) (λ x a. k.gap a x) (λ w. refl) (λ x xs w. refl) c.args.gaps.now c.loop-gap.gap-index _ c.loop-gap.set
-    _ _ c.loop-gap-test.true c.loop-gap.invariant (sym c.in-err-set.ensures.same)
+    _ _ c.loop-gap-test.true c.loop-gap.invariant (sym c.in_err-set.ensures.same)
 
 pub returns : goal.returns
 returns c =

@@ -17,7 +17,7 @@ returns c =
     let new = map limit_of c.cut.new.m in
     let by : Limit → _ = λ b. cut_weights limit_leb limit_plus (up_to (pos 0)) free (under (pos 0)) (cell free (map limit_of c.args.m.now)) g.first g.second b in
     let long : length new ≡ 49 = simp length-map (omega arith) in
-    let is = tabled_from free (by (limit_of c.bound-of.result)) new long c.cut.ensures in
-    cond-true (good_gap g) (Ok (tabled (by (gap_limit g)))) (Err bad_argument) (sym c.if-not-is-good-gap.ensures)
-    ∙ ap (λ b. Ok (tabled (by b))) (sym c.bound-of.ensures)
+    let is = tabled_from free (by (limit_of c.bound_of.result)) new long c.cut.ensures in
+    cond-true (good_gap g) (Ok (tabled (by (gap_limit g)))) (Err bad_argument) (sym c.if-not-is_good_gap.ensures)
+    ∙ ap (λ b. Ok (tabled (by b))) (sym c.bound_of.ensures)
     ∙ ap (λ l. Ok l) (sym is)

@@ -18,11 +18,11 @@ loop-p-preserved c =
     let here : p < length m = omega arith in
     let a = sym (get_or-map limit_of m p (record { code = pos 0 }) free here) in
     let b = read_at c.args.zone.now p c.loop-p-test.true in
-    rw add-one (and_from _ _ (test_at limit_leb free (map limit_of m) (limit_list c.args.zone.now) p _ _ true a b (sym c.if-not-is-under.ensures)) c.loop-p.invariant)
+    rw add-one (and_from _ _ (test_at limit_leb free (map limit_of m) (limit_list c.args.zone.now) p _ _ true a b (sym c.if-not-is_under.ensures)) c.loop-p.invariant)
 
-pub returns-then-not-is-under : goal.returns-then-not-is-under
+pub returns-then-not-is_under : goal.returns-then-not-is_under
 unfolding beneath_all
-returns-then-not-is-under c =
+returns-then-not-is_under c =
     let p = c.loop-p.p in
     let m = c.args.m.now in
     let here : p < length m = omega arith in
@@ -30,7 +30,7 @@ returns-then-not-is-under c =
     let b = read_at c.args.zone.now p c.loop-p-test.true in
     sym
     (every_stop (λ (q : ℕ). limit_leb (cell free (map limit_of m) (q / 7) (q % 7)) (limits c.args.zone.now (q / 7) (q % 7))) 49 p c.loop-p-test.true
-    (test_at limit_leb free (map limit_of m) (limit_list c.args.zone.now) p _ _ false a b (sym c.if-not-is-under.ensures)))
+    (test_at limit_leb free (map limit_of m) (limit_list c.args.zone.now) p _ _ false a b (sym c.if-not-is_under.ensures)))
 
 pub returns : goal.returns
 unfolding beneath_all

@@ -10,14 +10,14 @@ pub loop-gap-preserved : goal.loop-gap-preserved
 loop-gap-preserved g c =
     let k = g.Self.ClockSet.calls in
     chain_more (cut_all k) (λ x a. k.gap a x) (λ w. refl) (λ x xs w. refl) c.args.gaps.now c.loop-gap.gap-index _ c.loop-gap.set
-    c.in-ok-set.set _ c.loop-gap-test.true c.loop-gap.invariant (sym c.in-ok-set.ensures)
+    c.in_ok-set.set _ c.loop-gap-test.true c.loop-gap.invariant (sym c.in_ok-set.ensures)
 
-pub returns-in-err-set : goal.returns-in-err-set
-returns-in-err-set g c =
+pub returns-in_err-set : goal.returns-in_err-set
+returns-in_err-set g c =
     let k = g.Self.ClockSet.calls in
-    exit_is _ _ c.from-residual.ensures.1
+    exit_is _ _ c.from_residual.ensures.1
     ∙ chain_stop (cut_all k) (λ x a. k.gap a x) (λ w. refl) (λ x xs w. refl) c.args.gaps.now c.loop-gap.gap-index _ c.loop-gap.set
-    _ _ c.loop-gap-test.true c.loop-gap.invariant (sym c.in-err-set.ensures)
+    _ _ c.loop-gap-test.true c.loop-gap.invariant (sym c.in_err-set.ensures)
 
 pub returns : goal.returns
 returns g c =

@@ -8,7 +8,7 @@ use Rattle.order_set.proofs.OrderSetClockSet.delay.Goals as goal
 pub returns : goal.returns
 returns c =
     let a = c.args.self.now in
-    let is : c.delay-form.new.m ≡ delay_list a
-    = sym (map_self c.delay-form.new.m) ∙ c.delay-form.ensures ∙ rw (map_self c.load-m.result, c.load-m.ensures.same) refl in
-    let same : ◌≡◌ {A = Result OrderSet Slip} (Ok (stored c.delay-form.new.m)) (order_delay a) = ap (λ l. Ok (stored l)) is in
-    record { same = same; exact = delay_stands a (Ok (stored c.delay-form.new.m)) same }
+    let is : c.delay_form.new.m ≡ delay_list a
+    = sym (map_self c.delay_form.new.m) ∙ c.delay_form.ensures ∙ rw (map_self c.load-m.result, c.load-m.ensures.same) refl in
+    let same : ◌≡◌ {A = Result OrderSet Slip} (Ok (stored c.delay_form.new.m)) (order_delay a) = ap (λ l. Ok (stored l)) is in
+    record { same = same; exact = delay_stands a (Ok (stored c.delay_form.new.m)) same }

@@ -12,8 +12,8 @@ pub returns : goal.returns
 returns c =
     let a = c.args.self.now in
     let g = c.args.gap in
-    let is : c.cut-form.new.m ≡ cut_list a g
-    = sym (map_self c.cut-form.new.m) ∙ c.cut-form.ensures ∙ rw (map_self c.load-m.result, c.load-m.ensures.same, c.sign-of.ensures) refl in
-    let same : ◌≡◌ {A = Result OrderSet Slip} (Ok (stored c.cut-form.new.m)) (order_gap a g)
-    = ap (λ l. Ok (stored l)) is ∙ sym (cond-true (good_gap g) (Ok (stored (cut_list a g))) (Err bad_argument) (sym c.if-not-is-good-gap.ensures)) in
-    record { same = same; exact = gap_stands a g (Ok (stored c.cut-form.new.m)) same }
+    let is : c.cut_form.new.m ≡ cut_list a g
+    = sym (map_self c.cut_form.new.m) ∙ c.cut_form.ensures ∙ rw (map_self c.load-m.result, c.load-m.ensures.same, c.sign_of.ensures) refl in
+    let same : ◌≡◌ {A = Result OrderSet Slip} (Ok (stored c.cut_form.new.m)) (order_gap a g)
+    = ap (λ l. Ok (stored l)) is ∙ sym (cond-true (good_gap g) (Ok (stored (cut_list a g))) (Err bad_argument) (sym c.if-not-is_good_gap.ensures)) in
+    record { same = same; exact = gap_stands a g (Ok (stored c.cut_form.new.m)) same }

@@ -8,6 +8,6 @@ pub returns : goal.returns
 returns c =
     let a = c.args.self.now in
     let b = c.args.other.now in
-    let same : c.within-form.result ≡ order_within a b
-    = c.within-form.ensures.says ∙ rw (map_self c.load-m.result, map_self c.load-high.result, c.load-m.ensures.same, c.load-high.ensures.same) refl in
+    let same : c.within_form.result ≡ order_within a b
+    = c.within_form.ensures.says ∙ rw (map_self c.load-m.result, map_self c.load-high.result, c.load-m.ensures.same, c.load-high.ensures.same) refl in
     record { same = same; exact = subst (WithinExact a b) (sym same) (within_exactly a b) }

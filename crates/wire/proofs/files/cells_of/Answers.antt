@@ -15,18 +15,18 @@ loop-k-init c = (rw c.new-cells.ensures.items refl, refl, c.new-cells.ensures.le
 
 pub loop-k-preserved : goal.loop-k-preserved
 loop-k-preserved c =
-    let h = c.in-ok-cell.ensures in
+    let h = c.in_ok-cell.ensures in
     let i = c.loop-k.invariant in
-    let v = c.in-ok-push.ensures in
+    let v = c.in_ok-push.ensures in
     (rw v.items (many_more push (λ _. cell_at) _ _ _ _ _ _ _ _ _ (ap (λ x. x.now) i.1) i.0 h.reads), h.same ∙ i.1, v.len ∙ ap (λ (n : ℕ). n + 1) i.2)
 
-pub returns-in-err-cell : goal.returns-in-err-cell
+pub returns-in_err-cell : goal.returns-in_err-cell
 unfolding cells_at
-returns-in-err-cell c =
-    let h = c.in-err-cell.ensures in
+returns-in_err-cell c =
+    let h = c.in_err-cell.ensures in
     let i = c.loop-k.invariant in
     record {
-      reads = refuses _ _ _ _ c.from-residual.ensures.1
+      reads = refuses _ _ _ _ c.from_residual.ensures.1
           (many_stop push (λ _. cell_at) _ _ _ _ _ _ _ _ _ c.loop-k-test.true (ap (λ x. x.now) i.1) i.0 h.reads);
       same = h.same ∙ i.1;
       counted = search rules;

@@ -10,17 +10,17 @@ loop-k-init c = (refl, refl)
 
 pub loop-k-preserved : goal.loop-k-preserved
 loop-k-preserved c =
-    let h = c.in-ok-ends.ensures in
+    let h = c.in_ok-ends.ensures in
     let i = c.loop-k.invariant in
     (many_more set (λ (k : ℕ). ends_at (bit c.args.map (k + 6))) _ _ _ _ _ _ _ _ _ (ap (λ x. x.now) i.1) i.0 h.reads, h.same ∙ i.1)
 
-pub returns-in-err-ends : goal.returns-in-err-ends
+pub returns-in_err-ends : goal.returns-in_err-ends
 unfolding clocks_at
-returns-in-err-ends c =
-    let h = c.in-err-ends.ensures in
+returns-in_err-ends c =
+    let h = c.in_err-ends.ensures in
     let i = c.loop-k.invariant in
     record {
-      reads = exits _ _ _ _ c.from-residual.ensures.1
+      reads = exits _ _ _ _ c.from_residual.ensures.1
           (many_stop set (λ (k : ℕ). ends_at (bit c.args.map (k + 6))) _ _ _ _ _ _ _ _ _ c.loop-k-test.true (ap (λ x. x.now) i.1) i.0 h.reads);
       same = h.same ∙ i.1;
     }

@@ -10,17 +10,17 @@ loop-k-init c = (refl, refl)
 
 pub loop-k-preserved : goal.loop-k-preserved
 loop-k-preserved c =
-    let h = c.in-ok-events.ensures in
+    let h = c.in_ok-events.ensures in
     let i = c.loop-k.invariant in
     (many_more set (λ _. event_at) _ _ _ _ _ _ _ _ _ (ap (λ x. x.now) i.1) i.0 h.reads, h.same ∙ i.1)
 
-pub returns-in-err-events : goal.returns-in-err-events
+pub returns-in_err-events : goal.returns-in_err-events
 unfolding events_at
-returns-in-err-events c =
-    let h = c.in-err-events.ensures in
+returns-in_err-events c =
+    let h = c.in_err-events.ensures in
     let i = c.loop-k.invariant in
     record {
-      reads = exits _ _ _ _ c.from-residual.ensures.1
+      reads = exits _ _ _ _ c.from_residual.ensures.1
           (many_stop set (λ _. event_at) _ _ _ _ _ _ _ _ _ c.loop-k-test.true (ap (λ x. x.now) i.1) i.0 h.reads);
       same = h.same ∙ i.1;
     }

@@ -16,18 +16,18 @@ loop-k-init c = (rw c.new-entries.ensures.items refl, refl)
 
 pub loop-k-preserved : goal.loop-k-preserved
 loop-k-preserved c =
-    let h = c.in-ok-entry.ensures in
+    let h = c.in_ok-entry.ensures in
     let i = c.loop-k.invariant in
-    let v = c.in-ok-push.ensures in
+    let v = c.in_ok-push.ensures in
     (rw v.items (rw (map_push entry_seen) (many_more push (λ _. entry_at) _ _ _ _ _ _ _ _ _ (ap (λ x. x.now) i.1) i.0 h.reads)), h.same ∙ i.1)
 
-pub returns-in-err-entry : goal.returns-in-err-entry
+pub returns-in_err-entry : goal.returns-in_err-entry
 unfolding entries_at
-returns-in-err-entry c =
-    let h = c.in-err-entry.ensures in
+returns-in_err-entry c =
+    let h = c.in_err-entry.ensures in
     let i = c.loop-k.invariant in
     record {
-      reads = passes_on _ _ _ _ _ c.from-residual.ensures.1 h.reads
+      reads = passes_on _ _ _ _ _ c.from_residual.ensures.1 h.reads
           (λ e f. many_stop push (λ _. entry_at) _ _ _ _ _ _ _ _ _ c.loop-k-test.true (ap (λ x. x.now) i.1) i.0 f);
       same = h.same ∙ i.1;
     }

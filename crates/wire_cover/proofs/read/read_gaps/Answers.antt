@@ -14,18 +14,18 @@ loop-k-init c = (rw c.new-gaps.ensures.items refl, refl)
 
 pub loop-k-preserved : goal.loop-k-preserved
 loop-k-preserved c =
-    let h = c.in-ok-gap.ensures in
+    let h = c.in_ok-gap.ensures in
     let i = c.loop-k.invariant in
-    let v = c.in-ok-push.ensures in
+    let v = c.in_ok-push.ensures in
     (rw v.items (many_more push (λ _. gap_at) _ _ _ _ _ _ _ _ _ (ap (λ x. x.now) i.1) i.0 h.reads), h.same ∙ i.1)
 
-pub returns-in-err-gap : goal.returns-in-err-gap
+pub returns-in_err-gap : goal.returns-in_err-gap
 unfolding gaps_at
-returns-in-err-gap c =
-    let h = c.in-err-gap.ensures in
+returns-in_err-gap c =
+    let h = c.in_err-gap.ensures in
     let i = c.loop-k.invariant in
     record {
-      reads = refuses _ _ _ _ c.from-residual.ensures.1
+      reads = refuses _ _ _ _ c.from_residual.ensures.1
           (many_stop push (λ _. gap_at) _ _ _ _ _ _ _ _ _ c.loop-k-test.true (ap (λ x. x.now) i.1) i.0 h.reads);
       same = h.same ∙ i.1;
     }

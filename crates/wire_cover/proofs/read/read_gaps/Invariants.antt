@@ -5,5 +5,5 @@ use Rattle.wire_cover.proofs.read.read_gaps.Given as goal
 
 abbrev pub invariant-loop-k : goal.invariant-loop-k
 invariant-loop-k l =
-    (many (λ gs _ g. gs ++ g ∷ []) (λ _. gap_at) [] l.-k l.initial.reader.bytes.now l.initial.reader.at ≡ Ok (vec_items l.gaps, l.reader.at))
+    (many (λ gs _ g. gs ++ g ∷ []) (λ _. gap_at) [] l._k l.initial.reader.bytes.now l.initial.reader.at ≡ Ok (vec_items l.gaps, l.reader.at))
     × (l.reader.bytes ≡ l.initial.reader.bytes)

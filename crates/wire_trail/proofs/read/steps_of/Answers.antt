@@ -15,18 +15,18 @@ loop-k-init c = (rw c.new-steps.ensures.items refl, refl)
 
 pub loop-k-preserved : goal.loop-k-preserved
 loop-k-preserved c =
-    let h = c.in-ok-step.ensures in
+    let h = c.in_ok-step.ensures in
     let i = c.loop-k.invariant in
-    let v = c.in-ok-add.ensures in
+    let v = c.in_ok-add.ensures in
     (rw v (many_more push (λ _. next_at) _ _ _ _ _ _ _ _ _ (ap (λ x. x.now) i.1) i.0 h.reads), h.same ∙ i.1)
 
-pub returns-in-err-step : goal.returns-in-err-step
+pub returns-in_err-step : goal.returns-in_err-step
 unfolding steps_at
-returns-in-err-step c =
-    let h = c.in-err-step.ensures in
+returns-in_err-step c =
+    let h = c.in_err-step.ensures in
     let i = c.loop-k.invariant in
     record {
-      reads = refuses _ _ _ _ c.from-residual.ensures.1
+      reads = refuses _ _ _ _ c.from_residual.ensures.1
           (many_stop push (λ _. next_at) _ _ _ _ _ _ _ _ _ c.loop-k-test.true (ap (λ x. x.now) i.1) i.0 h.reads);
       same = h.same ∙ i.1;
     }

@@ -6,5 +6,5 @@ use Rattle.wire_trail.proofs.read.steps_of.Given as goal
 
 abbrev pub invariant-loop-k : goal.invariant-loop-k
 invariant-loop-k l =
-    (many (λ steps _ step. added steps step) (λ _. next_at) [] l.-k l.initial.reader.bytes.now l.initial.reader.at ≡ Ok (vec_items l.steps, l.reader.at))
+    (many (λ steps _ step. added steps step) (λ _. next_at) [] l._k l.initial.reader.bytes.now l.initial.reader.at ≡ Ok (vec_items l.steps, l.reader.at))
     × (l.reader.bytes ≡ l.initial.reader.bytes)

@@ -3,9 +3,9 @@ use Rattle.zone.specs.declared.Zone.{Zone}
 use Rattle.zone.specs.Forms.{cut_leaves_closed, cut_by_none}
 use Rattle.zone.proofs.ZoneClockSet.cut_closed.Goals as goal
 
-pub returns-then-is-empty : goal.returns-then-is-empty
-returns-then-is-empty c =
-    ap (λ (z : Zone). Ok z) c.closed.ensures ∙ sym (cut_by_none c.args.gaps.now c.args.self.now c.if-is-empty.ensures)
+pub returns-then-is_empty : goal.returns-then-is_empty
+returns-then-is_empty c =
+    ap (λ (z : Zone). Ok z) c.closed.ensures ∙ sym (cut_by_none c.args.gaps.now c.args.self.now c.if-is_empty.ensures)
 
 pub returns : goal.returns
-returns c = c.cut.ensures ∙ sym (cut_leaves_closed c.args.gaps.now c.args.self.now c.if-is-empty.ensures)
+returns c = c.cut.ensures ∙ sym (cut_leaves_closed c.args.gaps.now c.args.self.now c.if-is_empty.ensures)

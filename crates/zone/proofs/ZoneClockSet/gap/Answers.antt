@@ -14,7 +14,7 @@ pub returns : goal.returns
 returns c =
     let g = c.args.gap in
     let ls = cut_form limit_leb limit_plus (up_to (pos 0)) free (under (pos 0)) (limit_list c.args.self.now) g.first g.second (gap_limit g) in
-    let is : map limit_of c.cut-form.new.m ≡ ls = c.cut-form.ensures ∙ rw (c.load-m.ensures.same, c.bound-of.ensures) refl in
+    let is : map limit_of c.cut_form.new.m ≡ ls = c.cut_form.ensures ∙ rw (c.load-m.ensures.same, c.bound_of.ensures) refl in
     let same : c.keep.result ≡ zone_gap c.args.self.now g
-    = c.keep.ensures ∙ ap kept_zone is ∙ sym (cond-true (good_gap g) (kept_zone ls) (Err bad_argument) (sym c.if-not-is-good-gap.ensures)) in
+    = c.keep.ensures ∙ ap kept_zone is ∙ sym (cond-true (good_gap g) (kept_zone ls) (Err bad_argument) (sym c.if-not-is_good_gap.ensures)) in
     record { same = same; exact = gap_stands c.args.self.now g c.keep.result same }

@@ -11,8 +11,8 @@ returns-then-canonicalize c =
     let a = c.args.self.now in
     let b = c.args.other.now in
     let form = sym (ap (canonical_form limit_leb limit_plus (up_to (pos 0)) free (under (pos 0))) c.load-m.ensures.same) ∙ c.if-canonicalize.ensures.computed in
-    let same : c.is-beneath.result ≡ zone_within a b
-    = c.is-beneath.ensures ∙ sym (ap (λ o. within_of limit_leb limit_plus (up_to (pos 0)) free (under (pos 0)) o (limit_list b)) form) in
+    let same : c.is_beneath.result ≡ zone_within a b
+    = c.is_beneath.ensures ∙ sym (ap (λ o. within_of limit_leb limit_plus (up_to (pos 0)) free (under (pos 0)) o (limit_list b)) form) in
     record { same = same; exact = subst (WithinExact a b) (sym same) (within_exactly a b) }
 
 pub returns-else-canonicalize : goal.returns-else-canonicalize

@@ -9,5 +9,5 @@ use Rattle.zone.proofs.ZoneClockSet.zero.Goals as goal
 pub returns : goal.returns
 unfolding tabled
 returns c =
-    let is = stored_one _ (tabled zero_limits) (rw c.up-to.ensures refl) in
+    let is = stored_one _ (tabled zero_limits) (rw c.up_to.ensures refl) in
     record { same = is; exact = subst ZeroExact (sym is) zero_exact }
