@@ -76,7 +76,7 @@ pub fn depart<S: ClockSet>(model: &Model, from: &Entry<S>) -> Departure<S>
 impl<S: ClockSet> Departure<S> {
     // Time passes inside the cell, or the cell is left.
     fn onward(&self, step: Move) -> Result<S, Slip>
-        ensures { result ≡ onward calls self.now step }
+        ensures { result ≡ onward S.calls self.now step }
     {
         match step {
             Move::Wait => self.inside?.delay(),
@@ -87,7 +87,7 @@ impl<S: ClockSet> Departure<S> {
 
     // What a step out of cell c makes of the set.
     fn image(&self, model: &Model, c: usize, step: Move) -> Result<S, Slip>
-        ensures { result ≡ image_from calls (plan_of model.now) c self.now step }
+        ensures { result ≡ image_from S.calls (plan_of model.now) c self.now step }
     {
         let a = self.onward(step)?;
         cut_by(&a, &model.cell(target_of(model, c, step)))
@@ -95,7 +95,7 @@ impl<S: ClockSet> Departure<S> {
 
     // The closed form of this.
     pub fn closed_image(&self, model: &Model, c: usize, step: Move) -> Result<S, Slip>
-        ensures { result ≡ closed_form calls (image_from calls (plan_of model.now) c self.now step) }
+        ensures { result ≡ closed_form S.calls (image_from S.calls (plan_of model.now) c self.now step) }
     {
         let a = self.onward(step)?;
         cut_closed_by(&a, &model.cell(target_of(model, c, step)))

@@ -10,7 +10,7 @@ loop-n-init c = c.none-gaps.ensures
 pub loop-n-preserved : goal.loop-n-preserved
 loop-n-preserved c =
     two_more 12 (gaps_to c.args.cell.now c.loop-n.n) _ _ (gathered c.loop-n.gaps) (gathered c.push.new.self) (gathered c.push-in-loop-n.new.self) c.loop-n.invariant
-    (rw c.low-gap.ensures at c.push.ensures) (rw c.high-gap.ensures at c.push-in-loop-n.ensures)
+    (rw c.low_gap.ensures at c.push.ensures) (rw c.high_gap.ensures at c.push-in-loop-n.ensures)
     ∙ ap (take 12) (sym (gaps_next c.args.cell.now c.loop-n.n))
 
 pub returns : goal.returns

@@ -12,7 +12,7 @@ loop-k-preserved c =
     let e : inside_of c.args.n (event_at c.args.cell.now c.loop-k.k) ≡ true = cc in
     all_more _ _ c.loop-k.invariant e
 
-pub returns-then-not-event-below : goal.returns-then-not-event-below
-returns-then-not-event-below c =
+pub returns-then-not-event_below : goal.returns-then-not-event_below
+returns-then-not-event_below c =
     let e : inside_of c.args.n (event_at c.args.cell.now c.loop-k.k) ≡ false = cc in
     sym (all_stop _ _ _ c.loop-k-test.true e)

@@ -12,5 +12,5 @@ loop-k-preserved c =
     let m = into_more c.args.cells.now c.args.c c.args.d c.loop-k.k in
     let o = start_most c.args.cells.now c.args.c c.args.d c.loop-k.k in
     let i = c.loop-k.invariant in
-    let s = c.count-start-count.ensures in
+    let s = c.count_start-count.ensures in
     (omega (arith, i.0), omega (arith, i.1))

@@ -9,16 +9,16 @@ pub loop-m-init : goal.loop-m-init
 loop-m-init c = all_none _
 
 pub loop-m-preserved : goal.loop-m-preserved
-loop-m-preserved c = all_more _ _ c.loop-m.invariant (sym c.commute-below.ensures ∙ c.if-not-commute-below.false)
+loop-m-preserved c = all_more _ _ c.loop-m.invariant (sym c.commute_below.ensures ∙ c.if-not-commute_below.false)
 
-pub returns-then-not-commute-below : goal.returns-then-not-commute-below
+pub returns-then-not-commute_below : goal.returns-then-not-commute_below
 unfolding identity_ok
-returns-then-not-commute-below c =
-    all_stop_at _ _ _ (λ m. all_below m (commutes_all c.args.cells.now c.args.i m)) (ap (λ (x : Cell). x.dim) c.cell-at.ensures)
-    c.loop-m-test.true (sym c.commute-below.ensures ∙ c.if-not-commute-below.true)
+returns-then-not-commute_below c =
+    all_stop_at _ _ _ (λ m. all_below m (commutes_all c.args.cells.now c.args.i m)) (ap (λ (x : Cell). x.dim) c.cell_at.ensures)
+    c.loop-m-test.true (sym c.commute_below.ensures ∙ c.if-not-commute_below.true)
 
 pub returns : goal.returns
 unfolding identity_ok
 returns c =
-    all_done_at _ _ _ (λ m. all_below m (commutes_all c.args.cells.now c.args.i m)) (ap (λ (x : Cell). x.dim) c.cell-at.ensures)
+    all_done_at _ _ _ (λ m. all_below m (commutes_all c.args.cells.now c.args.i m)) (ap (λ (x : Cell). x.dim) c.cell_at.ensures)
     c.loop-m-test.false c.loop-m.auto.m-end c.loop-m.invariant

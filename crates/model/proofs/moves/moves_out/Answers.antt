@@ -9,5 +9,5 @@ use Rattle.model.proofs.moves.moves_out.Goals as goal
 pub returns : goal.returns
 unfolding moves_out
 returns c =
-    let e : taken c.push-finishes.new.moves ≡ capped (taken c.push.new.self ++ finishes (cell_at c.args.cells.now c.args.c).dim) = cc in
-    table_whole c.none-moves.result c.push.new.self c.push-finishes.new.moves c.push-starts.new.moves _ _ c.none-moves.ensures c.push.ensures e c.push-starts.ensures
+    let e : taken c.push_finishes.new.moves ≡ capped (taken c.push.new.self ++ finishes (cell_at c.args.cells.now c.args.c).dim) = cc in
+    table_whole c.none-moves.result c.push.new.self c.push_finishes.new.moves c.push_starts.new.moves _ _ c.none-moves.ensures c.push.ensures e c.push_starts.ensures

@@ -10,4 +10,4 @@ loop-d-init c = table_start c.args.moves.now
 pub loop-d-preserved : goal.loop-d-preserved
 unfolding starts_below
 loop-d-preserved c =
-    rw add-one (table_more c.args.moves.now c.loop-d.moves c.push-starts-into.new.moves (starts_below c.args.cells.now c.args.c c.loop-d.d) _ c.loop-d.invariant c.push-starts-into.ensures)
+    rw add-one (table_more c.args.moves.now c.loop-d.moves c.push_starts_into.new.moves (starts_below c.args.cells.now c.args.c c.loop-d.d) _ c.loop-d.invariant c.push_starts_into.ensures)

@@ -6,5 +6,5 @@ use Rattle.model.proofs.read.read_model.Goals as goal
 
 pub returns : goal.returns
 returns c =
-    let m = c.in-ok-model.model in
+    let m = c.in_ok-model.model in
     record { reads = search rules; heeds = search rules; lawful = lawful (plan_of m) (accepted m) }

@@ -12,6 +12,6 @@ pub returns-else-n-lt12 : goal.returns-else-n-lt12
 returns-else-n-lt12 c =
     put_full _ _ 12 _ c.args.self.now.long c.args.self.now.most c.if-n-lt12.false ∙ ap (λ o. take 12 (gathered c.args.self.now ++ listed o)) (sym c.in-Some.is)
 
-pub returns-in-default : goal.returns-in-default
-returns-in-default c =
-    capped_start 12 (gathered c.args.self.now) (few_taken c.args.self.now) ∙ ap (λ o. take 12 (gathered c.args.self.now ++ listed o)) (sym c.in-default.is)
+pub returns-in_default : goal.returns-in_default
+returns-in_default c =
+    capped_start 12 (gathered c.args.self.now) (few_taken c.args.self.now) ∙ ap (λ o. take 12 (gathered c.args.self.now ++ listed o)) (sym c.in_default.is)

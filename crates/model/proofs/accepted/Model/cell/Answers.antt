@@ -6,4 +6,4 @@ use Rattle.model.proofs.accepted.Model.cell.Goals as goal
 pub returns-else-i-len : goal.returns-else-i-len
 returns-else-i-len c =
     let le : length (vec_items c.args.self.now.cells) ≤ c.args.i = omega (arith, c.args.self.now.cells.ok.0, c.len.ensures) in
-    c.blank-cell.ensures ∙ sym (get_or_past (vec_items c.args.self.now.cells) c.args.i blank_cell le)
+    c.blank_cell.ensures ∙ sym (get_or_past (vec_items c.args.self.now.cells) c.args.i blank_cell le)

@@ -15,6 +15,6 @@ returns-then-i-len c =
     let cells = vec_items c.args.self.now.cells in
     let lt : c.args.i < length (vec_items c.args.self.now.cells) = omega (arith, m.cells.ok.0, c.len.ensures, c.if-i-len.true) in
     let few : length (moves_out (vec_items c.args.self.now.cells) c.args.i) ≤ 16 = leb-true _ _ (all_at (length cells) c.args.i (few_ok cells) m.few lt) in
-    let e : taken c.moves-out.result ≡ moves_out (vec_items c.args.self.now.cells) c.args.i =
-    c.moves-out.ensures ∙ ap (λ (cs : List Cell). take 16 (moves_out cs c.args.i)) c.deref.ensures.value ∙ take_all 16 _ few in
+    let e : taken c.moves_out.result ≡ moves_out (vec_items c.args.self.now.cells) c.args.i =
+    c.moves_out.ensures ∙ ap (λ (cs : List Cell). take 16 (moves_out cs c.args.i)) c.deref.ensures.value ∙ take_all 16 _ few in
     rw (lt-ltb _ _ lt, e)
