@@ -4,4 +4,4 @@ use Rattle.judging.proofs.full_table.Goals as goal
 
 pub loop-k-preserved : goal.loop-k-preserved
 loop-k-preserved g c =
-    c.in-ok-push.ensures.items ∙ ap (λ (l : List g.row.T.Denot). l ++ c.args.x ∷ []) c.loop-k.invariant ∙ replicate_more c.loop-k.-k c.args.x
+    c.in_ok-push.ensures.items ∙ ap (λ (l : List g.row.T.Denot). l ++ c.args.x ∷ []) c.loop-k.invariant ∙ replicate_more c.loop-k._k c.args.x

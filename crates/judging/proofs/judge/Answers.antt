@@ -15,6 +15,6 @@ returns-in-Ok g c =
     let cover = option_map vec_items c.args.cover.now in
     let trail = option_map vec_items c.args.trail.now in
     record {
-      shut = IfOk-weaker c.judge-model.result _ _ (λ v h. report_shut g.S.ClockSet.holds k g.met.S.ClockSet.sound (plan_of c.in-Ok.model) (accepted c.in-Ok.model) (read_plan c.args.model.now) cover trail (vec_items v) e h) c.judge-model.ensures;
-      lines = IfOk-weaker c.judge-model.result _ _ (λ v h. h ∙ ap (plan_lines k cover trail) (sym e)) c.judge-model.ensures;
+      shut = IfOk-weaker c.judge_model.result _ _ (λ v h. report_shut g.S.ClockSet.holds k g.met.S.ClockSet.sound (plan_of c.in-Ok.model) (accepted c.in-Ok.model) (read_plan c.args.model.now) cover trail (vec_items v) e h) c.judge_model.ensures;
+      lines = IfOk-weaker c.judge_model.result _ _ (λ v h. h ∙ ap (plan_lines k cover trail) (sym e)) c.judge_model.ensures;
     }

@@ -13,8 +13,8 @@ returns g c =
     let k = g.S.ClockSet.calls in
     let m = plan_of c.args.model.now in
     let rows =
-    c.new-entries.ensures.rows ∙ c.deref-mut.ensures.value ∙ c.in-ok-rows.ensures
+    c.new-entries.ensures.rows ∙ c.deref_mut.ensures.value ∙ c.in_ok-rows.ensures
     ∙ ap (λ (s : g.row.S.Denot). replicate {A = Entry g.row.S.Denot} most_entries (record { cell = 0; set = s })) c.all.ensures in
-    c.in-ok-judge-cover.ensures
+    c.in_ok-judge_cover.ensures
     ∙ ap (λ (w : World g.row.S.Denot). vec_items c.args.lines.now ++ lodged_lines k m (option_map vec_items c.args.trail.now) (lodge_all k m (map entry_seen c.args.cover.now) w))
-    (begun_is k _ _ _ _ rows c.new-entries.ensures.live (c.deref-mut-2.ensures.value ∙ c.in-ok-marks.ensures) c.new-docket.ensures)
+    (begun_is k _ _ _ _ rows c.new-entries.ensures.live (c.deref_mut-2.ensures.value ∙ c.in_ok-marks.ensures) c.new-docket.ensures)

@@ -12,15 +12,15 @@ pub loop-entry-preserved : goal.loop-entry-preserved
 loop-entry-preserved g c =
     lodge_more g.S.ClockSet.calls (plan_of c.args.model.now) c.args.cover.now c.loop-entry.entry-index c.entry-item.result
     (world c.loop-entry.entries c.loop-entry.marks c.loop-entry.docket)
-    (world c.lodge-entry.new.entries c.lodge-entry.new.marks c.lodge-entry.new.docket) _
-    c.loop-entry-test.true c.entry-item.is c.loop-entry.invariant c.in-ok-lodge-entry.ensures
+    (world c.lodge_entry.new.entries c.lodge_entry.new.marks c.lodge_entry.new.docket) _
+    c.loop-entry-test.true c.entry-item.is c.loop-entry.invariant c.in_ok-lodge_entry.ensures
 
-pub returns-in-err-lodge-entry : goal.returns-in-err-lodge-entry
-returns-in-err-lodge-entry g c =
-    sym (exit_then _ _ _ c.from-residual.ensures.1
+pub returns-in_err-lodge_entry : goal.returns-in_err-lodge_entry
+returns-in_err-lodge_entry g c =
+    sym (exit_then _ _ _ c.from_residual.ensures.1
     ∙ lodge_stop g.S.ClockSet.calls (plan_of c.args.model.now) c.args.cover.now c.loop-entry.entry-index c.entry-item.result
     (world c.loop-entry.entries c.loop-entry.marks c.loop-entry.docket) _ _
-    c.loop-entry-test.true c.entry-item.is c.loop-entry.invariant c.in-err-lodge-entry.ensures)
+    c.loop-entry-test.true c.entry-item.is c.loop-entry.invariant c.in_err-lodge_entry.ensures)
 
 pub returns : goal.returns
 returns g c =

@@ -13,7 +13,7 @@ pub returns : goal.returns
 returns g c rows n marks =
     let k = g.S.ClockSet.calls in
     let m = plan_of c.args.model.now in
-    let e = on_world rows n marks c.args.docket.now c.set-out.new.self _ _ c.in-ok-set-out.ensures in
+    let e = on_world rows n marks c.args.docket.now c.set_out.new.self _ _ c.in_ok-set_out.ensures in
     ap (λ (o : Result (Unit {0}) Slip × World g.row.S.Denot). unless_refused k o ⨾ step_all k m (vec_items c.args.file.now.steps)) e
-    ∙ ap (λ (xs : List Step). step_all k m xs (world_of rows n marks c.set-out.new.self)) (sym c.deref.ensures.value)
-    ∙ c.take-steps.ensures rows n marks
+    ∙ ap (λ (xs : List Step). step_all k m xs (world_of rows n marks c.set_out.new.self)) (sym c.deref.ensures.value)
+    ∙ c.take_steps.ensures rows n marks

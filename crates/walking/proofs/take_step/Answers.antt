@@ -4,7 +4,7 @@ use Rattle.trail.specs.Calls.{Outcome, stepped}
 use Rattle.walking.proofs.Noted.{noted}
 use Rattle.walking.proofs.take_step.Goals as goal
 
-pub returns-in-ok-push : goal.returns-in-ok-push
-returns-in-ok-push c rest =
+pub returns-in_ok-push-in-Ok : goal.returns-in_ok-push-in-Ok
+returns-in_ok-push-in-Ok c rest =
     let e : stepped (plan_of c.args.model.now) c.args.step c.args.trail.now ≡ (Ok tt, c.step.new.self) = sym c.in-Ok.ensures.is in
-    noted c.args.step _ c.step.new.self _ _ _ rest e c.in-Some.is c.in-ok-push.ensures.items
+    noted c.args.step _ c.step.new.self _ _ _ rest e c.in-Some.is c.in_ok-push-in-Ok.ensures.items

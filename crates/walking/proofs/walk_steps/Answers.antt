@@ -9,18 +9,18 @@ loop-step-init c = refl
 
 pub returns-then-not-branch : goal.returns-then-not-branch
 returns-then-not-branch c =
-    turned_off (plan_of c.args.model.now) c.args.steps.now c.loop-step.step-index _ c.loop-step.trail c.take-step.new.trail
-    (vec_items c.loop-step.lines) (vec_items c.take-step.new.lines) _ c.in-ok-take-step.field-0
-    c.if-not-branch.true c.loop-step-test.true c.loop-step.invariant c.in-ok-take-step.ensures
+    turned_off (plan_of c.args.model.now) c.args.steps.now c.loop-step.step-index _ c.loop-step.trail c.take_step.new.trail
+    (vec_items c.loop-step.lines) (vec_items c.take_step.new.lines) _ c.in_ok-take_step.field-0
+    c.if-not-branch.true c.loop-step-test.true c.loop-step.invariant c.in_ok-take_step.ensures
 
 pub loop-step-preserved : goal.loop-step-preserved
 loop-step-preserved c =
-    turned_on (plan_of c.args.model.now) c.args.steps.now c.loop-step.step-index _ c.loop-step.trail c.take-step.new.trail
-    (vec_items c.loop-step.lines) (vec_items c.take-step.new.lines) _ c.in-ok-take-step.field-0
-    c.if-not-branch.false c.loop-step-test.true c.loop-step.invariant c.in-ok-take-step.ensures
+    turned_on (plan_of c.args.model.now) c.args.steps.now c.loop-step.step-index _ c.loop-step.trail c.take_step.new.trail
+    (vec_items c.loop-step.lines) (vec_items c.take_step.new.lines) _ c.in_ok-take_step.field-0
+    c.if-not-branch.false c.loop-step-test.true c.loop-step.invariant c.in_ok-take_step.ensures
 
 pub returns : goal.returns
 returns c =
-    IfOk-weaker c.note-end.result _ _
+    IfOk-weaker c.note_end.result _ _
     (λ x h. h ∙ at_end (plan_of c.args.model.now) c.args.steps.now c.loop-step.step-index c.loop-step.trail (vec_items c.loop-step.lines) _ c.loop-step-test.false c.loop-step.invariant)
-    c.note-end.ensures
+    c.note_end.ensures

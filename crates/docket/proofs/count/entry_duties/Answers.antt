@@ -10,7 +10,7 @@ loop-i-init g c = (λ marks d. refl, omega arith)
 pub loop-i-preserved : goal.loop-i-preserved
 unfolding entry_duties
 loop-i-preserved g c =
-    (rw add-one (λ marks d. more _ _ _ _ (c.loop-i.invariant.0 marks d) c.steps-out-duties.ensures.is), omega (arith, c.loop-i.invariant.1, c.steps-out-duties.ensures.few))
+    (rw add-one (λ marks d. more _ _ _ _ (c.loop-i.invariant.0 marks d) c.steps_out-duties.ensures.is), omega (arith, c.loop-i.invariant.1, c.steps_out-duties.ensures.few))
 
 pub returns : goal.returns
 returns g c =

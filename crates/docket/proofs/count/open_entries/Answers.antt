@@ -10,7 +10,7 @@ loop-i-init g c = (λ d. refl, omega arith)
 pub loop-i-preserved : goal.loop-i-preserved
 unfolding open_entries
 loop-i-preserved g c =
-    (rw add-one (λ d. more _ _ _ _ (c.loop-i.invariant.0 d) (c.open-steps-open.ensures.is d)), omega (arith, c.loop-i.invariant.1, c.open-steps-open.ensures.few))
+    (rw add-one (λ d. more _ _ _ _ (c.loop-i.invariant.0 d) (c.open_steps-open.ensures.is d)), omega (arith, c.loop-i.invariant.1, c.open_steps-open.ensures.few))
 
 pub returns : goal.returns
 returns g c =

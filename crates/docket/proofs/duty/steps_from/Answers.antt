@@ -7,4 +7,4 @@ returns-in-Some c = found_steps _ _ _ c.in-Some.ensures
 
 pub returns : goal.returns
 returns c =
-    c.wait-only.ensures ∙ sym (no_steps (vec_items c.args.model.now.cells) c.args.cell c.args.model.now.linked c.in-default.ensures)
+    c.wait_only.ensures ∙ sym (no_steps (vec_items c.args.model.now.cells) c.args.cell c.args.model.now.linked c.in_default.ensures)

@@ -8,7 +8,7 @@ loop-i-init g c = λ d. refl
 
 pub loop-i-preserved : goal.loop-i-preserved
 unfolding entries_swept
-loop-i-preserved g c = rw add-one (λ d. c.sweep-entry.ensures d ∙ ap (steps_swept _ _ _ _) (c.loop-i.invariant d))
+loop-i-preserved g c = rw add-one (λ d. c.sweep_entry.ensures d ∙ ap (steps_swept _ _ _ _) (c.loop-i.invariant d))
 
 pub returns : goal.returns
 returns g c =
