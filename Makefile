@@ -3,7 +3,7 @@ EXAMPLES = $(sort $(wildcard examples/*/))
 
 .PHONY: run test
 run:
-	rt check judge walk
+	scripts/build.sh
 	@for d in $(EXAMPLES); do echo "== $$d"; (cd $$d && $(CURDIR)/target/bin/judge); done
 
 test:

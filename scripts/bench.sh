@@ -1,11 +1,9 @@
 #!/usr/bin/env bash
 # Times whole tasks, calls of zones beside plain Rust, and, where libppl-dev is installed, gaps beside the Parma Polyhedra Library. What is
-# measured stands in docs/bench.md. Argument: rounds of each whole task. The judge has to be built (rt check judge).
+# measured stands in docs/bench.md. Argument: rounds of each whole task. The programs and the exports have to be built (scripts/build.sh).
 set -u
 cd "$(dirname "$0")/.." || exit 1
-[ -x target/bin/judge ] || { echo "target/bin/judge is missing: run rt check judge"; exit 1; }
-mkdir -p target/bench
-rt staticlib kinds_export >target/bench/staticlib.log 2>&1 || { cat target/bench/staticlib.log; exit 1; }
+[ -x target/bin/judge ] || { echo "target/bin/judge is missing: run scripts/build.sh"; exit 1; }
 cargo build --release --offline --quiet --manifest-path oracle/Cargo.toml || exit 1
 cargo build --release --offline --quiet --manifest-path bench/Cargo.toml || exit 1
 

@@ -1,6 +1,6 @@
 #!/usr/bin/env bash
 # Compares judge and walk with the independent judge of oracle/ on random plans, covers, trails and damaged files.
-# Arguments: number of cases, seed. The programs have to be built (rt check judge walk).
+# Arguments: number of cases, seed. The programs have to be built (scripts/build.sh).
 set -u
 cd "$(dirname "$0")/.." || exit 1
 cargo build --release --offline --quiet --manifest-path oracle/Cargo.toml || exit 1

@@ -1,5 +1,5 @@
 -- What a gap asks of a reading.
-use Rattle.std.specs.Prelude.{ℕ, suc, ◌+◌, ◌*◌, ◌<◌, ◌≤◌, Bool, true, false, not, ◌&&◌, ℤ, pos, negsuc, ◌==◌, nat_le, nat_lt}
+use Rattle.std.specs.Prelude.{ℕ, suc, ◌+◌, ◌*◌, ◌<◌, ◌≤◌, Bool, not, ◌&&◌, ℤ, pos, negsuc, ◌==◌, nat_le, nat_lt}
 use Rattle.clocks.specs.declared.Gap.{Gap}
 use Rattle.clocks.specs.declared.Sign.{Sign}
 use Rattle.clocks.specs.declared.Sign.TheVariants.{Below, AtMost}

@@ -1,5 +1,5 @@
 -- What the calls of a kind mean, by readings alone. A reading has six counts and a scale is at least 1 throughout.
-use Rattle.std.specs.Prelude.{◌≡◌, ℕ, ◌≤◌, Bool, true, false, ◌↔◌, length, Ok, Err, Result}
+use Rattle.std.specs.Prelude.{◌≡◌, ℕ, ◌≤◌, true, false, length, Ok, Err, Result}
 use Rattle.slip.specs.declared.Refusal.TheVariants.{BadArgument, BoundTooLarge}
 use Rattle.slip.specs.declared.Slip.{Slip}
 use Rattle.clocks.specs.declared.Gap.{Gap}

@@ -1,5 +1,5 @@
 -- The answer of the closing, from its tests.
-use Rattle.std.proofs.Common.{◌≡◌, ℕ, true, false, cond, eqb, ◌≢◌, List, length, pos, Some, None, sym, ap, ◌∙◌}
+use Rattle.std.proofs.Common.{◌≡◌, true, false, cond, eqb, ◌≢◌, List, length, pos, Some, None, sym, ap, ◌∙◌}
 use Rattle.std.proofs.lemmas.Bool.{cond-true, cond-false, eq-eqb, ne_eqb}
 use Rattle.weight.specs.Bounds.{all_small}
 use Rattle.weight.specs.Closing.{closing, empty_form}

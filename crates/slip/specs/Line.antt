@@ -1,6 +1,5 @@
 -- A slip as a line of the report.
 use Rattle.std.specs.Prelude.{ℕ, List, ◌++◌, codes, decimal}
-use Rattle.slip.specs.declared.Refusal.{Refusal}
 use Rattle.slip.specs.declared.Slip.{Slip}
 use Rattle.slip.specs.Refusals.{number, layer}
 

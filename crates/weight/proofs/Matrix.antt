@@ -1,5 +1,5 @@
 -- The closing of a list of 49 weights: it is the closed form, or a way from a place to itself sums below neutral.
-use Rattle.std.proofs.Common.{◌≡◌, ℕ, zero, suc, ◌+◌, ◌*◌, ◌/◌, ◌%◌, ◌^◌, ◌<◌, ◌≤◌, Bool, true, false, cond, ◌⊎◌, List, length, get_or, Some, None, Decides, MatchBool, sym, refl, ap, ◌∙◌, ⊎_elim, mul_left_comm, arith}
+use Rattle.std.proofs.Common.{◌≡◌, ℕ, zero, suc, ◌+◌, ◌*◌, ◌/◌, ◌%◌, ◌^◌, ◌<◌, ◌≤◌, Bool, true, false, cond, List, length, get_or, Some, None, Decides, MatchBool, sym, refl, ap, ◌∙◌, ⊎_elim, mul_left_comm, arith}
 use Rattle.std.proofs.lemmas.List.FromFn.{fill_by_all, get_or-map-range_with_len, length-map-range_with_len}
 use Rattle.std.proofs.lemmas.List.{get_or-replicate}
 use Rattle.std.proofs.lemmas.Bool.{and_cases, both_ways, cases_Bool, cases_lt, cond-false, cond-true}

@@ -1,5 +1,5 @@
 -- Why the passes close a matrix: mathematics on functions of two places, from the laws of weights alone.
-use Rattle.std.proofs.Common.{◌≡◌, ℕ, suc, ◌<◌, Bool, true, false, cond, ◌⊎◌, ⊎_elim, arith}
+use Rattle.std.proofs.Common.{◌≡◌, ℕ, suc, ◌<◌, Bool, true, false, cond, ⊎_elim, arith}
 use Rattle.std.proofs.lemmas.Bool.{both_ways, cases_Bool, cases_lt}
 use Rattle.weight.specs.Weights.{Laws, Closed, Sound, Beneath, Way, step, join, ClosedForm, Falling}
 use Rattle.weight.specs.Closing.{lesser, passed}

@@ -1,5 +1,5 @@
 -- The closing of a matrix of 49 weights, row by row: the weight from i to j stands at 7 * i + j.
-use Rattle.std.specs.Prelude.{ℕ, zero, suc, ◌+◌, ◌*◌, ◌/◌, ◌%◌, ◌<◌, ◌≤◌, Bool, true, cond, ◌&&◌, List, [], map, replicate, Some, None, Option, slice_index_or}
+use Rattle.std.specs.Prelude.{ℕ, zero, suc, ◌+◌, ◌*◌, ◌/◌, ◌%◌, ◌<◌, ◌≤◌, Bool, true, cond, ◌&&◌, List, map, replicate, Some, None, Option, slice_index_or}
 use Rattle.std.specs.List.{range_with_len}
 
 -- the weight from i to j; a place past the list reads as `blank`

@@ -1,6 +1,6 @@
 -- A limit on the difference of two clock readings: below z, at most z, or none. And the three signs that a difference
 -- can be limited by when its constant is always zero.
-use Rattle.std.specs.Prelude.{◌≡◌, ℕ, Bool, true, false, not, ℤ, pos, ◌+ℤ◌, int_lt}
+use Rattle.std.specs.Prelude.{Bool, true, false, not, ℤ, ◌+ℤ◌, int_lt}
 
 pub data Limit : Type 0 where
   under : ℤ → Limit

@@ -1,5 +1,5 @@
 -- A cell in a file.
-use Rattle.std.specs.Prelude.{ℕ, ◌+◌, ◌^◌, ◌<◌, ◌≤◌, Bool, cond, ◌&&◌, List, set, replicate, Some, None, Ok, Err, Option, ◌==◌, bit_and, count_ones, nat_le, nat_lt, slice_set}
+use Rattle.std.specs.Prelude.{ℕ, ◌+◌, ◌^◌, ◌<◌, ◌≤◌, Bool, cond, ◌&&◌, List, replicate, Some, None, Ok, Err, Option, ◌==◌, bit_and, count_ones, nat_le, nat_lt, slice_set}
 use Rattle.std.proofs.Common.{subst, sym}
 use Rattle.std.proofs.lemmas.Nat.{ones-le, and_mask, mod_below, pow_pos}
 use Rattle.slip.specs.declared.Refusal.TheVariants.{BadBits, OutOfRange}

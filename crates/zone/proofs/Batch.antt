@@ -1,5 +1,5 @@
 -- Gaps may cut modest bounds one after another and be closed once: it is the same as a closing after each.
-use Rattle.std.proofs.Common.{◌≡◌, ℕ, ◌*◌, ◌<◌, ◌≤◌, Bool, true, false, cond, eqb, leb, ◌⊎◌, List, [], ◌∷◌, map, length, ℤ, pos, negsuc, nat_abs, Some, None, Ok, Err, Option, Result, sym, refl, ap, ◌∙◌, subst, ⊎_elim, arith}
+use Rattle.std.proofs.Common.{◌≡◌, ℕ, ◌<◌, ◌≤◌, Bool, true, false, cond, eqb, leb, List, [], ◌∷◌, map, length, ℤ, pos, negsuc, nat_abs, Some, None, Ok, Err, Option, sym, refl, ap, ◌∙◌, subst, ⊎_elim, arith}
 use Rattle.std.proofs.lemmas.Bool.{and_parts, cases_Bool, cond-false, cond-true, eqb-false, leb-true}
 use Rattle.slip.specs.declared.Slip.{Slip}
 use Rattle.clocks.specs.declared.Gap.{Gap}
@@ -23,7 +23,7 @@ use Rattle.zone_theory.proofs.Larges.{empty_small}
 use Rattle.zone_theory.proofs.Tables.{tabled_cell}
 use Rattle.matrix.proofs.Loops.{cut_room, tight_room}
 use Rattle.zone.specs.declared.Zone.{Zone}
-use Rattle.zone.specs.Zones.{limit_list, limits, stored, kept_zone, zone_gap, raw_cut, raw_cuts, formed, zone_calls}
+use Rattle.zone.specs.Zones.{limit_list, limits, stored, kept_zone, zone_gap, raw_cuts, formed, zone_calls}
 use Rattle.zone.specs.Facts.{clocks_in, cut_list}
 use Rattle.zone.specs.Forms.{formed_is}
 use Rattle.zone.specs.Kept.{read_again, stored_one}

@@ -1,5 +1,5 @@
 -- A zone's closed form answers as the zone does.
-use Rattle.std.specs.Prelude.{◌≡◌, ℕ, suc, ◌*◌, ◌^◌, ◌<◌, ◌≤◌, Bool, true, false, cond, not, ◌||◌, List, [], ◌∷◌, map, length, get_or, pos, Some, None, Ok, Err, Option, Result, ◌==◌, slice_index_or, refl}
+use Rattle.std.specs.Prelude.{◌≡◌, suc, ◌<◌, Bool, true, false, cond, not, ◌||◌, List, [], ◌∷◌, map, length, get_or, pos, Some, None, Ok, Err, Option, Result, ◌==◌, slice_index_or, refl}
 use Rattle.std.proofs.Common.{sym, ◌∙◌, ap, arith}
 use Rattle.std.proofs.lemmas.List.{get_or-map, length-map}
 use Rattle.std.proofs.lemmas.Bool.{eqb-false, eqb-true}
@@ -7,9 +7,8 @@ use Rattle.slip.specs.declared.Slip.{Slip}
 use Rattle.clocks.specs.declared.Gap.{Gap}
 use Rattle.clocks.specs.Gaps.{good_gap}
 use Rattle.clockset.specs.Calls.{◌⨾◌, cut_all}
-use Rattle.weight.specs.declared.bound.Bound.{Bound}
 use Rattle.weight.specs.Bounds.{limit_of, bound_of, limit_size}
-use Rattle.weight.specs.Closing.{cell, empty_form, Within}
+use Rattle.weight.specs.Closing.{cell, empty_form}
 use Rattle.weight.specs.Limits.{Limit, under, up_to, free, limit_leb, limit_plus}
 use Rattle.weight.specs.Limited.{limit_laws, limit_grows}
 use Rattle.weight.proofs.Matrix.{closing_room, empty_cell}

@@ -1,4 +1,4 @@
-use Rattle.std.proofs.Common.{◌≡◌, map, sym, refl, ◌∙◌}
+use Rattle.std.proofs.Common.{map, sym, refl, ◌∙◌}
 use Rattle.clockset.proofs.Chained.{chain_more, chain_stop, chain_end, exit_then}
 use Rattle.weight.specs.Bounds.{limit_of}
 use Rattle.zone.specs.Zones.{raw_cut, raw_cuts}

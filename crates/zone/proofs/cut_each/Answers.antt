@@ -1,4 +1,4 @@
-use Rattle.std.proofs.Common.{◌≡◌, sym, refl, ◌∙◌}
+use Rattle.std.proofs.Common.{sym, refl, ◌∙◌}
 use Rattle.clockset.specs.Calls.{cut_all}
 use Rattle.zone.specs.Zones.{zone_calls}
 use Rattle.clockset.proofs.Chained.{chain_more, chain_stop, chain_end, exit_is}

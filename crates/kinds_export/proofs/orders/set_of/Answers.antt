@@ -9,13 +9,13 @@ use Rattle.kinds_export.proofs.orders.set_of.Goals as goal
 pub loop-p-preserved : goal.loop-p-preserved
 loop-p-preserved c =
     let p = c.loop-p.p in
-    let r = c.sign-of.result in
+    let r = c.sign_of.result in
     let P : ℕ → Type 0 = λ q. get_or (set c.loop-p.signs p r) q Below ≡ sign_of (get_or c.args.set.now.codes q 0) in
     let here : p < length c.loop-p.signs = omega (arith, c.loop-p.invariant.0) in (
       simp length-set c.loop-p.invariant.0,
       below_more P p
           (λ q h. let ne : q ≢ p = omega arith in get_or-set_other c.loop-p.signs p q r Below ne ∙ c.loop-p.invariant.1 q h)
-          (get_or-set_same c.loop-p.signs p r Below here ∙ c.sign-of.ensures),
+          (get_or-set_same c.loop-p.signs p r Below here ∙ c.sign_of.ensures),
     )
 
 pub returns : goal.returns

@@ -1,4 +1,4 @@
-use Rattle.std.proofs.Common.{◌≡◌, Ok, sym, ap, ◌∙◌}
+use Rattle.std.proofs.Common.{Ok, sym, ap, ◌∙◌}
 use Rattle.zone.specs.declared.Zone.{Zone}
 use Rattle.zone.specs.Forms.{cut_leaves_closed, cut_by_none}
 use Rattle.zone.proofs.ZoneClockSet.cut_closed.Goals as goal
