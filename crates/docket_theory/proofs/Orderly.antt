@@ -1,6 +1,6 @@
 -- What holds of a docket's tables after every list of calls: there is room for the live entries, their cells are cells of the model,
 -- and every mark is justified.
-use Rattle.std.proofs.Common.{◌≡◌, ℕ, zero, suc, ◌-◌, ◌*◌, ◌<◌, ◌≤◌, List, length, set, Some, None, sym, refl, ◌∙◌, arith}
+use Rattle.std.proofs.Common.{◌≡◌, ℕ, zero, suc, ◌-◌, ◌*◌, ◌<◌, ◌≤◌, List, length, Some, None, sym, refl, ◌∙◌, arith}
 use Rattle.std.proofs.lemmas.List.{length-set, length-map}
 use Rattle.model.specs.Plans.{Plan, Accepted}
 use Rattle.trail.specs.declared.position.Trail.{Trail}

@@ -1,6 +1,6 @@
 -- What a step makes of the readings of a set: the images that the docket's duties are about. An image is refused when a call for it
 -- is, by that call's slip.
-use Rattle.std.specs.Prelude.{ℕ, zero, suc, ◌-◌, true, cond, pos, neg_ℤ, Some, None, Ok, Err, Option, Result, slice_index_or}
+use Rattle.std.specs.Prelude.{ℕ, zero, suc, ◌-◌, true, cond, pos, neg_ℤ, Some, None, Ok, Option, Result, slice_index_or}
 use Rattle.slip.specs.declared.Slip.{Slip}
 use Rattle.clocks.specs.declared.Gap.{Gap}
 use Rattle.clocks.specs.declared.Sign.{Sign}

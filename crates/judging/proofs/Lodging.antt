@@ -1,5 +1,5 @@
 -- The loops over the entries of a cover and over the steps of a trail.
-use Rattle.std.proofs.Common.{◌≡◌, ℕ, ◌+◌, ◌*◌, ◌<◌, ◌≤◌, List, [], ◌∷◌, map, length, get_or, drop, replicate, Ok, Err, Result, sym, refl, ap, ◌∙◌}
+use Rattle.std.proofs.Common.{◌≡◌, ℕ, ◌+◌, ◌*◌, ◌<◌, ◌≤◌, List, ◌∷◌, map, length, get_or, drop, replicate, Ok, Err, Result, sym, refl, ap, ◌∙◌}
 use Rattle.slip.specs.declared.Slip.{Slip}
 use Rattle.wire.specs.declared.cover.CoverEntry.{CoverEntry}
 use Rattle.wire.specs.declared.step.Step.{Step}

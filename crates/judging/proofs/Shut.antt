@@ -11,15 +11,14 @@ use Rattle.model.specs.Plans.{Plan, Accepted}
 use Rattle.trail.specs.declared.position.Position.{Position}
 use Rattle.clockset.specs.Calls.{Calls, ◌⨾◌, cut_all}
 use Rattle.clockset.specs.Laws.{Sound}
-use Rattle.docket_theory.specs.declared.Verdict.{Verdict as Judgement}
 use Rattle.docket_theory.specs.declared.Verdict.TheVariants.{Shut}
 use Rattle.docket_theory.specs.Docket.{lodged, swept, verdict_of}
-use Rattle.docket_theory.specs.Log.{Call, Logged, Worked, begun, lodge, sweep, set_out, wait, start, finish, set_out_call, step_call}
+use Rattle.docket_theory.specs.Log.{Worked, begun, lodge, sweep, set_out, wait, start, finish, set_out_call, step_call}
 use Rattle.docket_theory.specs.Promise.{Unreachable}
 use Rattle.docket_theory.specs.Worlds.{World}
 use Rattle.docket_theory.proofs.Promised.{promised, worked_more}
 use Rattle.lines.specs.declared.Line.{Line}
-use Rattle.lines.specs.declared.Line.TheVariants.{Cells, NoTrail, Refused, Entries, Verdict, Trail as Ended}
+use Rattle.lines.specs.declared.Line.TheVariants.{Cells, NoTrail, Refused, Verdict, Trail as Ended}
 use Rattle.lines.specs.Lines.{at_position}
 use Rattle.judging.specs.Judge.{unless_refused, lodge_all, step_all, walk_all, verdict_lines, walked_lines, trail_lines, swept_lines, lodged_lines, cover_entries, plan_lines}
 use Rattle.judging.specs.Judge as judge

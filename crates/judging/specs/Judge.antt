@@ -7,9 +7,7 @@ use Rattle.wire.specs.declared.step.Step.{Step}
 use Rattle.wire.specs.Files.{cover_file, trail_file}
 use Rattle.model.specs.Plans.{Plan}
 use Rattle.model.specs.Read.{read_plan}
-use Rattle.trail.specs.declared.position.Position.{Position}
 use Rattle.clockset.specs.Calls.{Calls, ◌⨾◌, cut_all}
-use Rattle.docket_theory.specs.declared.Entry.{Entry}
 use Rattle.docket_theory.specs.Docket.{lodged, swept, verdict_of, duty_count}
 use Rattle.docket_theory.specs.Log.{set_out_call, step_call}
 use Rattle.docket_theory.specs.Worlds.{World, fresh, open_mark, steps_per_entry, most_entries}

@@ -1,8 +1,7 @@
 -- How many steps leave a cell.
-use Rattle.std.proofs.Common.{◌≡◌, ℕ, zero, suc, ◌+◌, ◌≤◌, Bool, true, false, cond, eqb, List, [], ◌∷◌, ◌++◌, length, sym, refl, ap, ◌∙◌, add-one, arith}
+use Rattle.std.proofs.Common.{◌≡◌, ℕ, zero, suc, ◌+◌, ◌≤◌, Bool, true, false, cond, eqb, List, [], ◌∷◌, length, refl, ap, ◌∙◌, add-one, arith}
 use Rattle.std.proofs.lemmas.List.{length-append}
 use Rattle.wire.specs.declared.cell.Cell.{Cell}
-use Rattle.model.specs.declared.outgoing.Move.{Move}
 use Rattle.model.specs.declared.outgoing.Move.TheVariants.{Finish, Start}
 use Rattle.model.specs.Cells.{cell_at, face}
 use Rattle.model.specs.Outgoing.{start_at, starts_into, starts_below, finishes, moves_out}

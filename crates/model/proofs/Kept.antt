@@ -1,9 +1,8 @@
 -- The rules that a model keeps when no fault was found.
-use Rattle.std.proofs.Common.{◌≡◌, ℕ, ◌<◌, Bool, true, false, cond, ltb, List, length, Some, None, Option, sym, refl, arith}
+use Rattle.std.proofs.Common.{◌≡◌, ℕ, ◌<◌, Bool, true, false, cond, ltb, List, length, Some, None, Option, refl, arith}
 use Rattle.std.proofs.lemmas.Bool.{ltb-true}
 use Rattle.slip.specs.declared.Refusal.{Refusal}
 use Rattle.slip.specs.declared.Refusal.TheVariants.{NoSuchCell}
-use Rattle.slip.specs.declared.Slip.{Slip}
 use Rattle.wire.specs.declared.cell.Cell.{Cell}
 use Rattle.model.specs.Accept.{link_fault, rule_fault, broken_by}
 use Rattle.model.specs.Below.{first_bad, or_else}

@@ -1,6 +1,6 @@
 -- The tests of the rules say what the rules mean.
-use Rattle.std.proofs.Common.{◌≡◌, ℕ, zero, suc, ◌+◌, ◌-◌, ◌<◌, ◌≤◌, Bool, true, false, cond, not, ◌&&◌, ◌||◌, eqb, ltb, ◌⊎◌, List, map, length, get_or, sym, refl, ap, ◌∙◌, inl, inr, arith}
-use Rattle.std.specs.List.{remove, range_with_len}
+use Rattle.std.proofs.Common.{◌≡◌, ℕ, zero, suc, ◌+◌, ◌-◌, ◌<◌, ◌≤◌, Bool, true, false, cond, not, ◌&&◌, ◌||◌, eqb, ◌⊎◌, length, get_or, sym, refl, ap, ◌∙◌, inl, inr, arith}
+use Rattle.std.specs.List.{remove}
 use Rattle.std.proofs.lemmas.List.FromFn.{length-map-range_with_len, get_or-map-range_with_len, fill_by_all}
 use Rattle.std.proofs.lemmas.List.Edits.{length-remove, get_or-remove_below, get_or-remove_above}
 use Rattle.std.proofs.lemmas.Bool.{and_parts, or_cases, or_left, or_right, not-true, both_ways, eqb-true, eq-eqb, leb-true, cases_lt, lt-ltb, le-ltb}
@@ -12,7 +12,7 @@ use Rattle.model.specs.Cells.{cell_at, event_at, face, letters}
 use Rattle.model.specs.Laws.{Lawful}
 use Rattle.model.specs.Outgoing.{moves_out}
 use Rattle.model.specs.Plans.{Plan, Accepted}
-use Rattle.model.specs.Rules.{rank, past, same_at, lacks, lacks_both, letters_ok, commutes, commutes_all, identity_ok, quiet_ok, few_ok, every_cell}
+use Rattle.model.specs.Rules.{rank, past, same_at, lacks, lacks_both, letters_ok, commutes, commutes_all, identity_ok, quiet_ok, few_ok}
 use Rattle.model.proofs.Below.{all_at}
 use Rattle.model.proofs.Within.{face_within}
 

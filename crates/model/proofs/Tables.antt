@@ -1,5 +1,5 @@
 -- A table of steps that takes up a list of steps part by part.
-use Rattle.std.proofs.Common.{◌≡◌, ℕ, ◌+◌, ◌≤◌, List, [], ◌∷◌, ◌++◌, length, take, sym, refl, ap, ◌∙◌, arith}
+use Rattle.std.proofs.Common.{◌≡◌, ◌≤◌, List, [], ◌∷◌, ◌++◌, length, take, ap, ◌∙◌, arith}
 use Rattle.std.proofs.lemmas.List.{length-take}
 use Rattle.model.specs.declared.outgoing.Move.{Move}
 use Rattle.model.specs.declared.outgoing.Move.TheVariants.{Wait}

@@ -1,5 +1,5 @@
 -- What accepting a model's cells comes to: the first broken rule with its cell, or the cells.
-use Rattle.std.specs.Prelude.{◌≡◌, ℕ, Bool, true, false, cond, List, length, Some, None, Option, nat_lt}
+use Rattle.std.specs.Prelude.{ℕ, cond, List, length, Some, None, Option, nat_lt}
 use Rattle.slip.specs.declared.Refusal.{Refusal}
 use Rattle.slip.specs.declared.Refusal.TheVariants.{NoSuchCell, WrongLetters, BrokenIdentity, BusyCell, TooManySteps}
 use Rattle.slip.specs.declared.Slip.{Slip}

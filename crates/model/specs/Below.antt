@@ -1,5 +1,5 @@
 -- A test over all numbers below a bound: whether it passes at each, and the lowest at which it fails.
-use Rattle.std.specs.Prelude.{ℕ, zero, suc, Bool, true, false, cond, ◌&&◌, Some, None, Option}
+use Rattle.std.specs.Prelude.{ℕ, zero, suc, Bool, true, cond, ◌&&◌, Some, None, Option}
 
 unfoldable pub all_below : ℕ → (ℕ → Bool) → Bool
 all_below zero f = true

@@ -1,6 +1,6 @@
 -- Cells by number, and the parts of a cell that rules and runs speak of. A cell or event that does not exist reads as a blank
 -- one, so that every definition is total.
-use Rattle.std.specs.Prelude.{◌≡◌, ℕ, ◌+◌, ◌<◌, Bool, true, false, cond, List, [], ◌∷◌, map, replicate, None, slice_index_or}
+use Rattle.std.specs.Prelude.{ℕ, Bool, false, cond, List, map, replicate, None, slice_index_or}
 use Rattle.std.proofs.Common.{lit≤}
 use Rattle.std.specs.List.{range_with_len}
 use Rattle.wire.specs.declared.cell.Cell.{Cell}

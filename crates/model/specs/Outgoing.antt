@@ -1,9 +1,9 @@
 -- The steps out of a cell, in the order of their numbers: wait, the finishes by event, the starts by cell and then by event.
-use Rattle.std.specs.Prelude.{ℕ, zero, suc, ◌+◌, Bool, true, false, cond, List, [], ◌∷◌, ◌++◌, length, ◌==◌}
+use Rattle.std.specs.Prelude.{ℕ, zero, suc, ◌+◌, false, cond, List, [], ◌∷◌, ◌++◌, length, ◌==◌}
 use Rattle.wire.specs.declared.cell.Cell.{Cell}
 use Rattle.model.specs.declared.outgoing.Move.{Move}
 use Rattle.model.specs.declared.outgoing.Move.TheVariants.{Wait, Finish, Start}
-use Rattle.model.specs.Cells.{cell_at, event_at, face}
+use Rattle.model.specs.Cells.{cell_at, face}
 
 -- finish event 1, .., finish event n
 unfoldable pub finishes : ℕ → List Move

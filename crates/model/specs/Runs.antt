@@ -1,9 +1,8 @@
 -- Runs of a plan, in the words of higher-dimensional timed automata. Nothing here knows the program.
 -- A scale s is a whole number from 1, and a tick is one s-th of a unit. A clock count is a number of ticks.
-use Rattle.std.specs.Prelude.{◌≡◌, ℕ, suc, ◌+◌, ◌*◌, ◌<◌, ◌≤◌, Bool, true, false, cond, List, [], ◌∷◌, length, Some, None, Option, slice_index, slice_index_or}
+use Rattle.std.specs.Prelude.{◌≡◌, ℕ, suc, ◌*◌, ◌<◌, ◌≤◌, true, false, cond, List, [], ◌∷◌, length, Some, None, Option, slice_index, slice_index_or}
 use Rattle.wire.specs.declared.cell.Cell.{Cell}
 use Rattle.wire.specs.declared.cell.End.{End}
-use Rattle.wire.specs.declared.cell.Ends.{Ends}
 use Rattle.wire.specs.declared.step.Step.{Step}
 use Rattle.wire.specs.declared.step.Step.TheVariants.{Wait, Start, Finish}
 use Rattle.clocks.specs.Readings.{Reading, zero_reading, later, in_mask, cleared}

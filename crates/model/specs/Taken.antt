@@ -1,5 +1,5 @@
 -- The list that a table of steps stands for.
-use Rattle.std.specs.Prelude.{ℕ, List, take}
+use Rattle.std.specs.Prelude.{List, take}
 use Rattle.model.specs.declared.outgoing.Move.{Move}
 use Rattle.model.specs.declared.outgoing.Moves.{Moves}
 

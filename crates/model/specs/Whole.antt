@@ -1,5 +1,5 @@
 -- A model as a whole: the plan that it holds, and what accepting a file comes to.
-use Rattle.std.specs.Prelude.{◌≡◌, ℕ, List, Some, None, Ok, Err, vec_items, Result, Vec}
+use Rattle.std.specs.Prelude.{◌≡◌, ℕ, Some, None, Ok, Err, vec_items, Result, Vec}
 use Rattle.std.specs.declared.alloc.Global.{Global}
 use Rattle.slip.specs.declared.Slip.{Slip}
 use Rattle.wire.specs.declared.cell.Cell.{Cell}

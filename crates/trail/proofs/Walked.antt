@@ -1,5 +1,5 @@
 -- The calls against the step relation: accepted exactly when it allows the step within the limits.
-use Rattle.std.proofs.Common.{◌≡◌, ℕ, zero, suc, ◌+◌, ◌-◌, ◌<◌, ◌≤◌, Bool, true, false, cond, ◌&&◌, eqb, ltb, leb, length, get_or, Some, None, Ok, Err, Option, Result, sym, refl, ap, ◌∙◌, subst, arith}
+use Rattle.std.proofs.Common.{◌≡◌, ℕ, zero, suc, ◌+◌, ◌-◌, ◌<◌, ◌≤◌, Bool, true, false, cond, ◌&&◌, eqb, ltb, leb, length, get_or, Some, None, Ok, Err, Option, Result, sym, refl, subst, arith}
 use Rattle.std.proofs.lemmas.Bool.{and_from, and_parts, ltb-true, lt-ltb, leb-true, le-leb, eqb-true, eq-eqb, both_ways}
 use Rattle.slip.specs.declared.Refusal.TheVariants.{NotThere, CountTooLarge, NoConfiguration, BadScale, Unknown}
 use Rattle.slip.specs.declared.Slip.{Slip}
@@ -7,13 +7,13 @@ use Rattle.wire.specs.declared.step.Step.{Step}
 use Rattle.wire.specs.declared.step.Step.TheVariants.{Wait, Start, Finish}
 use Rattle.clocks.specs.Readings.{zero_reading}
 use Rattle.model.specs.Cells.{cell_at, face}
-use Rattle.model.specs.Runs.{Meets, Moves, waits, starts, finishes, HasEvent}
+use Rattle.model.specs.Runs.{Meets, waits, starts, finishes, HasEvent}
 use Rattle.model.specs.Plans.{Plan}
 use Rattle.trail.specs.declared.position.Position.{Position}
 use Rattle.trail.specs.declared.position.Trail.{Trail}
-use Rattle.trail.specs.Calls.{Target, outcome, landing, on_trail, from_position, opening, opening_at, after_wait, room_for, wait_from, into, has_event, start_from, start_at, finish_from, slip_at, setting_out, waited, started, finished}
+use Rattle.trail.specs.Calls.{Target, outcome, landing, on_trail, from_position, opening, after_wait, room_for, wait_from, into, has_event, start_from, finish_from, slip_at, setting_out, waited, started, finished}
 use Rattle.trail.specs.Tests.{meets, fits}
-use Rattle.trail.specs.Walks.{Goes, Walks, SetsOut, Opens, configuration}
+use Rattle.trail.specs.Walks.{Goes, Walks, SetsOut}
 use Rattle.trail.proofs.Counts.{fits_at, fits_all}
 use Rattle.trail.proofs.Meeting.{meets_true, meets_all}
 use Rattle.trail.proofs.Stepping.{enabled}

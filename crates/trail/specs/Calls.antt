@@ -1,6 +1,6 @@
 -- What each call makes of a trail: its result and the trail afterwards. A refused call leaves the trail as it stood; its place is
 -- the trail's cell, or 0 where there is no trail. Each call tests its refusals in the order of their numbers.
-use Rattle.std.specs.Prelude.{ℕ, ◌+◌, ◌-◌, Bool, true, false, cond, ◌&&◌, List, length, Some, None, Ok, Err, Option, Result, ◌==◌, nat_le, nat_lt}
+use Rattle.std.specs.Prelude.{ℕ, ◌+◌, ◌-◌, Bool, true, false, cond, ◌&&◌, length, Some, None, Ok, Err, Option, Result, ◌==◌, nat_le, nat_lt}
 use Rattle.slip.specs.declared.Refusal.{Refusal}
 use Rattle.slip.specs.declared.Refusal.TheVariants.{Unknown, BadScale, NoTrail, NotThere, CountTooLarge, NoConfiguration}
 use Rattle.slip.specs.declared.Slip.{Slip}

@@ -1,5 +1,5 @@
 -- The tests that a trail's calls make of counts.
-use Rattle.std.specs.Prelude.{ℕ, ◌+◌, ◌*◌, Bool, true, false, cond, ◌&&◌, leb, List, Some, None, Option, nat_le, nat_lt, slice_index, slice_index_or}
+use Rattle.std.specs.Prelude.{ℕ, ◌+◌, ◌*◌, Bool, true, cond, ◌&&◌, leb, List, Some, None, Option, nat_le, nat_lt, slice_index, slice_index_or}
 use Rattle.wire.specs.declared.cell.Cell.{Cell}
 use Rattle.wire.specs.declared.cell.End.{End}
 use Rattle.wire.specs.declared.cell.Ends.{Ends}

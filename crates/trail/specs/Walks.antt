@@ -1,5 +1,5 @@
 -- What the calls mean: each accepts exactly when the step relation allows the step within the limits, and lands there.
-use Rattle.std.specs.Prelude.{◌≡◌, ℕ, ◌+◌, ◌<◌, ◌≤◌, List, [], Some, None, Ok, Err, Option, Result, slice_index}
+use Rattle.std.specs.Prelude.{◌≡◌, ℕ, ◌+◌, ◌<◌, ◌≤◌, Some, Ok, Err, Result, slice_index}
 use Rattle.slip.specs.declared.Slip.{Slip}
 use Rattle.wire.specs.declared.step.Step.{Step}
 use Rattle.wire.specs.declared.step.Step.TheVariants.{Wait, Start, Finish}

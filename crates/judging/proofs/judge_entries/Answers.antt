@@ -1,4 +1,4 @@
-use Rattle.std.proofs.Common.{List, ◌++◌, map, replicate, vec_items, ap, ◌∙◌}
+use Rattle.std.proofs.Common.{◌++◌, map, replicate, vec_items, ap, ◌∙◌}
 use Rattle.std.specs.Option.{option_map}
 use Rattle.wire.specs.Files.{entry_seen}
 use Rattle.model.specs.Whole.{plan_of}

@@ -1,4 +1,4 @@
-use Rattle.std.proofs.Common.{◌≡◌, List, vec_items, Result, sym, ap, ◌∙◌}
+use Rattle.std.proofs.Common.{List, vec_items, Result, sym, ap, ◌∙◌}
 use Rattle.slip.specs.declared.Slip.{Slip}
 use Rattle.wire.specs.declared.step.Step.{Step}
 use Rattle.model.specs.Whole.{plan_of}

@@ -1,6 +1,6 @@
 use Rattle.std.proofs.Common.{◌≡◌, Ok, sym}
 use Rattle.model.specs.Whole.{plan_of}
-use Rattle.trail.specs.Calls.{Outcome, stepped}
+use Rattle.trail.specs.Calls.{stepped}
 use Rattle.walking.proofs.Noted.{noted}
 use Rattle.walking.proofs.take_step.Goals as goal
 

@@ -1,4 +1,4 @@
-use Rattle.std.proofs.Common.{◌≡◌, ◌<◌, not, sym, ap, ◌∙◌, arith}
+use Rattle.std.proofs.Common.{◌<◌, not, sym, ap, ◌∙◌, arith}
 use Rattle.model.proofs.Below.{bad_none, bad_more, bad_stop, bad_rest}
 use Rattle.docket_theory.specs.Docket.{can_hold}
 use Rattle.docket.proofs.Rows.{live_less, live_few, live_here, live_past}

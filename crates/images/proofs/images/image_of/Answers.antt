@@ -1,4 +1,4 @@
-use Rattle.std.proofs.Common.{◌≡◌, ap, ◌∙◌}
+use Rattle.std.proofs.Common.{ap, ◌∙◌}
 use Rattle.model.specs.Whole.{plan_of}
 use Rattle.images.specs.Departures.{image_from}
 use Rattle.images.proofs.Parted.{image_parts}

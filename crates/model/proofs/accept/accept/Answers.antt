@@ -1,4 +1,4 @@
-use Rattle.std.proofs.Common.{◌≡◌, ◌<◌, ◌≤◌, length, None, vec_items, vec_len, sym, ap, ◌∙◌, arith}
+use Rattle.std.proofs.Common.{◌≡◌, ◌<◌, None, vec_items, vec_len, arith}
 use Rattle.model.specs.Accept.{link_fault, rule_fault}
 use Rattle.model.proofs.Kept.{linked_from, ruled_from}
 use Rattle.model.proofs.accept.accept.Goals as goal

@@ -1,4 +1,4 @@
-use Rattle.std.proofs.Common.{◌≡◌, rules}
+use Rattle.std.proofs.Common.{◌≡◌}
 use Rattle.model.specs.Cells.{face}
 use Rattle.model.proofs.Within.{face_within}
 use Rattle.model.proofs.faces.face_at.Goals as goal

@@ -1,4 +1,4 @@
-use Rattle.std.proofs.Common.{◌≡◌, refl, arith}
+use Rattle.std.proofs.Common.{refl, arith}
 use Rattle.model.specs.Outgoing.{starts_below}
 use Rattle.model.proofs.Counts.{below_more}
 use Rattle.model.proofs.few.count_starts.Goals as goal

@@ -1,4 +1,4 @@
-use Rattle.std.proofs.Common.{◌≡◌, refl, arith}
+use Rattle.std.proofs.Common.{refl, arith}
 use Rattle.model.specs.Outgoing.{starts_into}
 use Rattle.model.proofs.Counts.{start_most, into_more}
 use Rattle.model.proofs.few.count_starts_into.Goals as goal

@@ -1,4 +1,4 @@
-use Rattle.std.proofs.Common.{◌≡◌, ◌+◌, ◌-◌, ◌<◌, arith}
+use Rattle.std.proofs.Common.{◌-◌, ◌<◌, arith}
 use Rattle.model.specs.Cells.{cell_at, face}
 use Rattle.model.proofs.Within.{face_dim}
 use Rattle.model.proofs.identity.commute.Goals as goal

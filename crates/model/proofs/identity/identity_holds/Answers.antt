@@ -1,4 +1,4 @@
-use Rattle.std.proofs.Common.{ℕ, sym, ap, ◌∙◌}
+use Rattle.std.proofs.Common.{sym, ap, ◌∙◌}
 use Rattle.wire.specs.declared.cell.Cell.{Cell}
 use Rattle.model.specs.Below.{all_below}
 use Rattle.model.specs.Rules.{identity_ok, commutes_all}

@@ -1,5 +1,4 @@
-use Rattle.std.proofs.Common.{◌≡◌, ◌++◌, ap}
-use Rattle.wire.specs.declared.cell.Cell.{Cell}
+use Rattle.std.proofs.Common.{◌≡◌, ◌++◌}
 use Rattle.model.specs.Cells.{cell_at}
 use Rattle.model.specs.Outgoing.{moves_out, finishes}
 use Rattle.model.specs.Taken.{taken, capped}

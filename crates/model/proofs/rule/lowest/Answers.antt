@@ -1,4 +1,4 @@
-use Rattle.std.proofs.Common.{sym, ◌∙◌, rules}
+use Rattle.std.proofs.Common.{sym, ◌∙◌}
 use Rattle.model.proofs.Below.{bad_none, bad_more, bad_stop}
 use Rattle.model.proofs.rule.lowest.Goals as goal
 
