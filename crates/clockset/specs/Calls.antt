@@ -3,7 +3,6 @@ use Rattle.std.specs.Prelude.{ℕ, Bool, List, [], ◌∷◌, Ok, Err, Result}
 use Rattle.slip.specs.declared.Slip.{Slip}
 use Rattle.clocks.specs.declared.Gap.{Gap}
 
--- The last three are for asking one set many times: the set is brought to a closed form once, and that is asked.
 pub record Calls (S : Type 0) : Type 0 where
   pub all : S
   pub zero : S
@@ -12,6 +11,9 @@ pub record Calls (S : Type 0) : Type 0 where
   pub delay : S → Result S Slip
   pub within : S → S → Bool
   pub empty : S → Bool
+
+-- For asking one set many times: the set is brought to a closed form once, and that is asked.
+pub record Closings (S : Type 0) : Type 0 where
   pub closed : S → S
   pub closed_within : S → S → Bool
   pub closed_empty : S → Bool

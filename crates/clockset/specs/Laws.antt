@@ -5,7 +5,7 @@ use Rattle.slip.specs.declared.Slip.{Slip}
 use Rattle.clocks.specs.declared.Gap.{Gap}
 use Rattle.clocks.specs.Gaps.{ObeysGap, good_gap, good_mask}
 use Rattle.clocks.specs.Readings.{Reading, zero_reading, later, in_mask, cleared}
-use Rattle.clockset.specs.Calls.{Calls}
+use Rattle.clockset.specs.Calls.{Calls, Closings}
 
 -- the refusals of sets have the place 0
 abbrev pub bad_argument : Slip
@@ -57,6 +57,6 @@ pub record Sure {S : Type 0} (holds : S → ℕ → Reading → Type 0) (k : Cal
   pub delay_alike : (a b : S) → Alike holds a b → FareAlike holds (k.delay a) (k.delay b)
 
 -- a set's closed form answers as the set does
-pub record Forms {S : Type 0} (k : Calls S) : Type 0 where
-  pub closed_within_is : (a b : S) → k.closed_within (k.closed a) b ≡ k.within a b
-  pub closed_empty_is : (a : S) → k.closed_empty (k.closed a) ≡ k.empty a
+pub record Forms {S : Type 0} (k : Calls S) (f : Closings S) : Type 0 where
+  pub closed_within_is : (a b : S) → f.closed_within (f.closed a) b ≡ k.within a b
+  pub closed_empty_is : (a : S) → f.closed_empty (f.closed a) ≡ k.empty a

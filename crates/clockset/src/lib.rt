@@ -3,7 +3,7 @@
 #![tactic(auto)]
 
 ghost use Rattle.std.specs.Prelude.{◌≡◌, ℕ, Bool, List, Ok};
-ghost use Rattle.clockset.specs.Calls.{Calls, ◌⨾◌, cut_all};
+ghost use Rattle.clockset.specs.Calls.{Calls, Closings, ◌⨾◌, cut_all};
 ghost use Rattle.clockset.specs.Laws.{Sound, Sure, Forms};
 
 use clocks::Gap;
@@ -15,6 +15,9 @@ pub trait ClockSet: Copy {
 
     // what each call answers
     ghost calls: { Calls Self };
+
+    // what a closed form answers
+    ghost closings: { Closings Self };
 
     // every reading
     fn all() -> Self
@@ -57,22 +60,22 @@ pub trait ClockSet: Copy {
 
     // the closed form of the set cut by gaps
     fn cut_closed(&self, gaps: &[Gap]) -> Result<Self, Slip>
-        ensures { result ≡ (cut_all calls gaps.now self.now ⨾ λ a. Ok (calls.closed a)) }
+        ensures { result ≡ (cut_all calls gaps.now self.now ⨾ λ a. Ok (closings.closed a)) }
     {
         Ok(self.cut(gaps)?.closed())
     }
 
     // the set in a form that is quick to ask, for a set that is asked many times
     fn closed(&self) -> Self
-        ensures { result ≡ calls.closed self.now };
+        ensures { result ≡ closings.closed self.now };
 
     // `within`, asked of a closed form
     fn closed_within(&self, other: &Self) -> bool
-        ensures { result ≡ calls.closed_within self.now other.now };
+        ensures { result ≡ closings.closed_within self.now other.now };
 
     // `is_empty`, asked of a closed form
     fn closed_is_empty(&self) -> bool
-        ensures { result ≡ calls.closed_empty self.now };
+        ensures { result ≡ closings.closed_empty self.now };
 
     // what the calls keep, and that a yes is true
     ghost sound: { Sound holds calls };
@@ -81,5 +84,5 @@ pub trait ClockSet: Copy {
     ghost sure: { Sure holds calls };
 
     // a closed form answers as its set does
-    ghost forms: { Forms calls };
+    ghost forms: { Forms calls closings };
 }

@@ -23,14 +23,14 @@ use slip::Slip;
 
 // Whether the entry holds the set of that closed form on the cell. Its cell is looked at first, as sets are dear to compare.
 fn holds_on<S: ClockSet>(holder: &Entry<S>, closed: &S, goal: usize) -> bool
-    ensures { (a : S) → closed.now ≡ S.calls.closed a → result ≡ can_hold S.calls a goal (Some holder.now) }
+    ensures { (a : S) → closed.now ≡ S.closings.closed a → result ≡ can_hold S.calls a goal (Some holder.now) }
 {
     holder.cell as usize == goal && closed.closed_within(&holder.set)
 }
 
 // The lowest live entry that holds the set of that closed form on the cell.
 fn lowest_holder<S: ClockSet>(rows: &[Entry<S>], live: u16, closed: &S, goal: usize) -> Option<u16>
-    ensures { (a : S) → closed.now ≡ S.calls.closed a → result ≡ lowest_holder S.calls (rows_world rows.now live) a goal }
+    ensures { (a : S) → closed.now ≡ S.closings.closed a → result ≡ lowest_holder S.calls (rows_world rows.now live) a goal }
 {
     for (h, holder) in live_rows(rows, live).iter().enumerate() {
         if holds_on(holder, closed, goal) {
@@ -51,7 +51,7 @@ fn holder_mark(holder: Option<u16>) -> u16
 
 // The mark by which a duty can be settled whose image has this closed form, and this target.
 fn found_mark<S: ClockSet>(rows: &[Entry<S>], live: u16, goal: usize, found: Result<S, Slip>) -> u16
-    ensures { (image : Result S Slip) → found ≡ closed_form S.calls image → result ≡ found_mark S.calls (rows_world rows.now live) goal image }
+    ensures { (image : Result S Slip) → found ≡ closed_form S.closings image → result ≡ found_mark S.calls (rows_world rows.now live) goal image }
 {
     match found {
         Ok(closed) => if closed.closed_is_empty() {

@@ -5,7 +5,7 @@ use Rattle.model.specs.declared.outgoing.Move.{Move}
 use Rattle.model.specs.declared.outgoing.Move.TheVariants.{Wait, Finish, Start}
 use Rattle.model.specs.Cells.{cell_at}
 use Rattle.model.specs.Plans.{Plan}
-use Rattle.clockset.specs.Calls.{Calls, ◌⨾◌}
+use Rattle.clockset.specs.Calls.{Calls, Closings, ◌⨾◌}
 use Rattle.docket_theory.specs.declared.Entry.{Entry}
 use Rattle.docket_theory.specs.Images.{cut_by, target}
 use Rattle.images.specs.declared.departure.Departure.{Departure}
@@ -28,5 +28,5 @@ abbrev pub image_from : {S : Type 0} → Calls S → Plan → ℕ → Departure 
 image_from k m c d step = onward k d step ⨾ cut_by k (cell_at m.cells (target m c step))
 
 -- the closed form of an image, if it comes
-abbrev pub closed_form : {S : Type 0} → Calls S → Result S Slip → Result S Slip
-closed_form k r = r ⨾ λ a. Ok (k.closed a)
+abbrev pub closed_form : {S : Type 0} → Closings S → Result S Slip → Result S Slip
+closed_form f r = r ⨾ λ a. Ok (f.closed a)

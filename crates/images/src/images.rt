@@ -25,7 +25,7 @@ fn cut_by<S: ClockSet>(a: &S, cell: &Cell) -> Result<S, Slip>
 
 // The closed form of these readings.
 fn cut_closed_by<S: ClockSet>(a: &S, cell: &Cell) -> Result<S, Slip>
-    ensures { result ≡ closed_form S.calls (cut_by S.calls cell.now a.now) }
+    ensures { result ≡ closed_form S.closings (cut_by S.calls cell.now a.now) }
 {
     let gaps = gaps_of(cell);
     a.cut_closed(&gaps.list[..gaps.count])
@@ -95,7 +95,7 @@ impl<S: ClockSet> Departure<S> {
 
     // The closed form of this.
     pub fn closed_image(&self, model: &Model, c: usize, step: Move) -> Result<S, Slip>
-        ensures { result ≡ closed_form S.calls (image_from S.calls (plan_of model.now) c self.now step) }
+        ensures { result ≡ closed_form S.closings (image_from S.calls (plan_of model.now) c self.now step) }
     {
         let a = self.onward(step)?;
         cut_closed_by(&a, &model.cell(target_of(model, c, step)))
@@ -118,7 +118,7 @@ pub fn opening_image<S: ClockSet>(model: &Model) -> Result<S, Slip>
 
 // The closed form of this.
 pub fn closed_opening_image<S: ClockSet>(model: &Model) -> Result<S, Slip>
-    ensures { result ≡ closed_form S.calls (opening_image S.calls (plan_of model.now)) }
+    ensures { result ≡ closed_form S.closings (opening_image S.calls (plan_of model.now)) }
 {
     cut_closed_by(&S::zero(), &model.cell(model.first))
 }

@@ -4,7 +4,7 @@ use Rattle.slip.specs.declared.Slip.{Slip}
 use Rattle.clocks.specs.declared.Gap.{Gap}
 use Rattle.clocks.specs.Gaps.{good_gap, good_mask}
 use Rattle.clocks.specs.Readings.{Reading, in_mask}
-use Rattle.clockset.specs.Calls.{Calls}
+use Rattle.clockset.specs.Calls.{Calls, Closings}
 use Rattle.clockset.specs.Laws.{bad_argument}
 use Rattle.weight.specs.declared.order_sign.OrderSign.{OrderSign}
 use Rattle.weight.specs.declared.order_sign.OrderSign.TheVariants.{Below, AtMost, Free}
@@ -53,16 +53,8 @@ abbrev pub order_empty : OrderSet → Bool
 order_empty a = empty_test sign_leb sign_plus AtMost Free Below (sign_list a)
 
 abbrev pub order_calls : Calls OrderSet
-order_calls =
-    record {
-      all = order_all;
-      zero = order_zero;
-      gap = order_gap;
-      reset = order_reset;
-      delay = order_delay;
-      within = order_within;
-      empty = order_empty;
-      closed = λ a. a;
-      closed_within = order_within;
-      closed_empty = order_empty;
-    }
+order_calls = record { all = order_all; zero = order_zero; gap = order_gap; reset = order_reset; delay = order_delay; within = order_within; empty = order_empty }
+
+-- an order set is its own closed form
+abbrev pub order_closings : Closings OrderSet
+order_closings = record { closed = λ a. a; closed_within = order_within; closed_empty = order_empty }

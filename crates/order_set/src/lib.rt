@@ -7,7 +7,7 @@ ghost use Rattle.std.proofs.Common.{◌∙◌};
 ghost use Rattle.clockset.specs.Laws.{bad_argument};
 ghost use Rattle.zone_theory.specs.Gaps.{gap_sign};
 ghost use Rattle.order_set.specs.Exact.{Canonical, GapStands, ResetStands, DelayStands, ZeroExact, WithinExact, EmptyExact};
-ghost use Rattle.order_set.specs.Orders.{sign_list, order_holds, order_calls, limits, order_gap, order_reset, order_delay};
+ghost use Rattle.order_set.specs.Orders.{sign_list, order_holds, order_calls, order_closings, limits, order_gap, order_reset, order_delay};
 ghost use Rattle.clocks.specs.Gaps.{good_gap, good_mask};
 ghost use Rattle.clocks.specs.Readings.{in_mask, count_at, cleared, later, zero_reading};
 ghost use Rattle.zone_theory.proofs.Counts.{length_listed, length_later};
@@ -69,6 +69,8 @@ impl ClockSet for OrderSet {
     ghost holds = { order_holds };
 
     ghost calls = { order_calls };
+
+    ghost closings = { order_closings };
 
     ghost sound = { record {
       all_in = λ s v p six. all_in s v;

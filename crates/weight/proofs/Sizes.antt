@@ -17,8 +17,12 @@ within_at n (x ∷ xs) (suc p) e = within_at n xs p (and_parts _ _ e).1
 pub all_within_is : (n : ℕ) (xs : List Limit) → all_within n xs ≡ true → Within limit_size free n xs
 all_within_is n xs e i j hi hj = within_at n xs (7 * i + j) e
 
+pub small_is : (ls : List Limit) → all_small ls ≡ all_within 4000000 ls
+small_is [] = refl
+small_is (l ∷ ls) = ap (λ b. leb (limit_size l) 4000000 && b) (small_is ls)
+
 pub small_within : (xs : List Limit) (n : ℕ) → 4000000 ≤ n → all_small xs ≡ true → Within limit_size free n xs
-small_within xs n h e i j hi hj = omega (arith, within_at 4000000 xs (7 * i + j) e)
+small_within xs n h e i j hi hj = omega (arith, within_at 4000000 xs (7 * i + j) (sym (small_is xs) ∙ e))
 
 abbrev bounds_within : ℕ → List Bound → Bool
 bounds_within n bs = all_within n (map limit_of bs)

@@ -50,9 +50,7 @@ abbrev pub all_within : ℕ → List Limit → Bool
 all_within n [] = true
 all_within n (l ∷ ls) = nat_le (limit_size l) n && all_within n ls
 
--- the largest constant of a closed bound that is kept
-abbrev pub most_constant : ℕ
-most_constant = 4000000
-
+-- no constant exceeds 4,000,000 either way
 abbrev pub all_small : List Limit → Bool
-all_small ls = all_within most_constant ls
+all_small [] = true
+all_small (l ∷ ls) = nat_le (limit_size l) 4000000 && all_small ls

@@ -14,7 +14,7 @@ use Rattle.weight.specs.Closing.{cell, empty_form, Within}
 use Rattle.weight.specs.Limits.{Limit, under, up_to, free, limit_leb, limit_plus}
 use Rattle.weight.specs.Limited.{limit_laws, limit_grows}
 use Rattle.weight.proofs.Matrix.{closing_room}
-use Rattle.weight.proofs.Sizes.{all_within_is, within_list}
+use Rattle.weight.proofs.Sizes.{all_within_is, within_list, small_is}
 use Rattle.zone_theory.specs.Gaps.{gap_limit, limit_by}
 use Rattle.zone_theory.specs.Readings.{Alike}
 use Rattle.zone_theory.specs.Sets.{tabled, tight, canonical_form, or_empty, cut_weights}
@@ -38,7 +38,7 @@ small_by : (ls : List Limit) → Modest ls → (o : Option (List Limit)) → can
 small_by ls room (Some new) is =
     let wide = tight_room limit_leb limit_plus (up_to (pos 0)) free (under (pos 0)) limit_size 31250 ls room (omega arith) in
     let most = closing_room limit_laws free (tabled (tight limit_leb limit_plus (up_to (pos 0)) free (under (pos 0)) (cell free ls))) limit_size limit_grows 31250 wide new is in
-    within_list 4000000 new (form_length limit_embeds ls new is) (λ i j hi hj. omega (arith, most i j hi hj))
+    small_is new ∙ within_list 4000000 new (form_length limit_embeds ls new is) (λ i j hi hj. omega (arith, most i j hi hj))
 small_by ls room None is = empty_small
 
 pub formed_small : (ls : List Limit) → Modest ls → all_small (formed ls) ≡ true

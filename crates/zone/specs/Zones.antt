@@ -4,7 +4,7 @@ use Rattle.slip.specs.declared.Slip.{Slip}
 use Rattle.clocks.specs.declared.Gap.{Gap}
 use Rattle.clocks.specs.Gaps.{good_gap, good_mask}
 use Rattle.clocks.specs.Readings.{Reading, in_mask}
-use Rattle.clockset.specs.Calls.{Calls, ◌⨾◌}
+use Rattle.clockset.specs.Calls.{Calls, ◌⨾◌, Closings}
 use Rattle.clockset.specs.Laws.{bad_argument, bound_too_large}
 use Rattle.weight.specs.declared.bound.Bound.{Bound}
 use Rattle.weight.specs.Bounds.{limit_of, bound_of, limit_size, all_small}
@@ -86,16 +86,7 @@ abbrev pub zone_closed_within : Zone → Zone → Bool
 zone_closed_within a b = zone_closed_empty a || beneath_all limit_leb limit_plus (up_to (pos 0)) free (under (pos 0)) (map limit_of a.bounds) (limit_list b)
 
 abbrev pub zone_calls : Calls Zone
-zone_calls =
-    record {
-      all = zone_all;
-      zero = zone_zero;
-      gap = zone_gap;
-      reset = zone_reset;
-      delay = zone_delay;
-      within = zone_within;
-      empty = zone_empty;
-      closed = zone_closed;
-      closed_within = zone_closed_within;
-      closed_empty = zone_closed_empty;
-    }
+zone_calls = record { all = zone_all; zero = zone_zero; gap = zone_gap; reset = zone_reset; delay = zone_delay; within = zone_within; empty = zone_empty }
+
+abbrev pub zone_closings : Closings Zone
+zone_closings = record { closed = zone_closed; closed_within = zone_closed_within; closed_empty = zone_closed_empty }

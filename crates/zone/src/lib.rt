@@ -13,7 +13,7 @@ ghost use Rattle.zone_theory.specs.Gaps.{gap_limit};
 ghost use Rattle.zone_theory.specs.Sets.{beneath_all};
 ghost use Rattle.zone.specs.Cases.{CasesStand, Canonical};
 ghost use Rattle.zone.specs.Exact.{GapStands, ResetStands, DelayStands, ZeroExact, WithinExact, EmptyExact};
-ghost use Rattle.zone.specs.Zones.{read_limit, limit_list, kept_zone, raw_cut, raw_cuts, zone_calls, zone_holds, limits, zone_gap, zone_reset, zone_delay};
+ghost use Rattle.zone.specs.Zones.{read_limit, limit_list, kept_zone, raw_cut, raw_cuts, zone_calls, zone_closings, zone_holds, limits, zone_gap, zone_reset, zone_delay};
 ghost use Rattle.std.proofs.lemmas.Bool.{cond-true};
 ghost use Rattle.clocks.specs.Gaps.{good_gap, good_mask};
 ghost use Rattle.clocks.specs.Readings.{in_mask, count_at, cleared, later, zero_reading};
@@ -27,7 +27,7 @@ use clocks::{Gap, Sign};
 use clockset::ClockSet;
 use matrix::{canonicalize, cut, cut_form, delay_form, is_good_gap, reset_form, tighten};
 use slip::{Refusal, Slip};
-use weight::{Bound, Weight, all_within};
+use weight::{Bound, Weight, all_small, all_within};
 
 // The largest constant of a closed bound that is kept.
 const MOST_CONSTANT: u32 = 4_000_000;
@@ -90,7 +90,7 @@ fn is_beneath(m: &[Bound], zone: &Zone) -> bool
 fn keep(m: [Bound; 49]) -> Result<Zone, Slip>
     ensures { result ≡ kept_zone (map limit_of m) }
 {
-    if all_within(&m, MOST_CONSTANT) {
+    if all_small(&m) {
         Ok(Zone { bounds: m })
     } else {
         Err(Slip {
@@ -156,6 +156,8 @@ impl ClockSet for Zone {
     ghost holds = { zone_holds };
 
     ghost calls = { zone_calls };
+
+    ghost closings = { zone_closings };
 
     ghost sound = { record {
       all_in = λ s v p six. all_in s v;

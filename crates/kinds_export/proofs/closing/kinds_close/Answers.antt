@@ -12,22 +12,22 @@ returns-then-m-ne49 c =
     let other : length ls ≢ 49 = omega (arith, long) in
     other_length ls other
 
-pub returns-then-not-all_within : goal.returns-then-not-all_within
-returns-then-not-all_within c =
+pub returns-then-not-all_small : goal.returns-then-not-all_small
+returns-then-not-all_small c =
     let ls = map limit_of c.args.m.now in
     let same : length ls ≡ length c.args.m.now = length-map c.args.m.now limit_of in
     let long : length ls ≡ 49 = omega (arith, same) in
-    too_large ls long (sym c.if-not-all_within.ensures)
+    too_large ls long (sym c.if-not-all_small.ensures)
 
 pub close-requires : goal.close-requires
-close-requires c = record { long = omega arith; room = small_within (map limit_of c.args.m.now) 4194304 (omega arith) (sym c.if-not-all_within.ensures) }
+close-requires c = record { long = omega arith; room = small_within (map limit_of c.args.m.now) 4194304 (omega arith) (sym c.if-not-all_small.ensures) }
 
 pub returns-then-close : goal.returns-then-close
 returns-then-close c =
     let ls = map limit_of c.args.m.now in
     let same : length ls ≡ length c.args.m.now = length-map c.args.m.now limit_of in
     let long : length ls ≡ 49 = omega (arith, same) in
-    closed ls long (sym c.if-not-all_within.ensures) (map limit_of c.close.new.m) c.if-close.ensures.computed
+    closed ls long (sym c.if-not-all_small.ensures) (map limit_of c.close.new.m) c.if-close.ensures.computed
 
 pub returns-else-close : goal.returns-else-close
 returns-else-close c =
@@ -35,4 +35,4 @@ returns-else-close c =
     let same : length ls ≡ length c.args.m.now = length-map c.args.m.now limit_of in
     let long : length ls ≡ 49 = omega (arith, same) in
     let o = c.if-close.ensures in
-    emptied ls long (sym c.if-not-all_within.ensures) o.computed (map limit_of c.close.new.m) (o.emptied refl)
+    emptied ls long (sym c.if-not-all_small.ensures) o.computed (map limit_of c.close.new.m) (o.emptied refl)
