@@ -8,6 +8,7 @@ import re
 import sys
 
 DEF = re.compile(r"^(\s*)((?:(?:pub|abbrev|unfoldable|opaque)\s+)*)([A-Za-z_][\w'\-]*)\s*:(?!=)")
+RECORD = re.compile(r"^\s*(?:pub\s+)?(?:record|data)\s+([A-Za-z_][\w'\-]*)")
 TOKEN = re.compile(r"(?<![\w'\-])[A-Za-z_][\w'\-]*")
 # the names that the new spelling would give to two things: the lemma or the field about a definition takes _is
 FALLS = {
@@ -43,6 +44,9 @@ def main():
             m = DEF.match(line)
             if m and not line.rstrip().endswith(": goal." + m.group(3)):
                 own[m.group(3)].add(path)
+            m = RECORD.match(line)
+            if m:
+                own[m.group(1)].add(path)
     new = {n: respelt(n) for n in own if respelt(n) != n}
     taken = collections.defaultdict(set)
     for n in own:

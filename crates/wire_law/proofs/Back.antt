@@ -3,7 +3,7 @@ use Rattle.std.proofs.Common.{◌≡◌, ℕ, zero, suc, ◌+◌, ◌/◌, ◌%�
 use Rattle.std.proofs.ByRecursion.{All-get_or}
 use Rattle.std.proofs.lemmas.List.{get_or-drop, drop-drop, take_more, take_all, flat_map_more}
 use Rattle.std.proofs.lemmas.Bool.{le-leb}
-use Rattle.std.specs.List.{flat_map, AllByRecursion as All}
+use Rattle.std.specs.List.{flat_map, AllByRecursion}
 use Rattle.slip.specs.declared.Refusal.{Refusal}
 use Rattle.slip.specs.declared.Refusal.TheVariants.{Truncated}
 use Rattle.wire.specs.Reading.{Parsed, ◌⨟◌, kept, field, byte_at, word_at, long_at, many}
@@ -73,7 +73,7 @@ module _ (s : List ℕ) where
   -- readings in a row into a list
   pub list_back : {A : Type 0} (d : List ℕ → ℕ → Parsed A) (code : A → List ℕ) (P : A → Type 0) (blank : A)
       → ((x : A) → P x → Back s (d s) (code x) x)
-      → (xs : List A) → All P xs → Back s (many (λ ys _ y. ys ++ y ∷ []) (λ _. d) [] (length xs) s) (flat_map code xs) xs
+      → (xs : List A) → AllByRecursion P xs → Back s (many (λ ys _ y. ys ++ y ∷ []) (λ _. d) [] (length xs) s) (flat_map code xs) xs
   list_back d code P blank each xs fit =
       let whole = take_all (length xs) xs (omega arith) in
       back_same _ _ _ _ _ (ap (flat_map code) whole) whole

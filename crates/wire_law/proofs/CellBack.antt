@@ -20,7 +20,7 @@ use Rattle.wire.specs.Reading.{Parsed, ◌⨟◌, byte_at, word_at, many}
 use Rattle.wire.specs.CellFormat.{bit, letter_of, or_refuse, letter_at, no_event, event_at, events_at, exits_at, flags_ok, flags_at, end_at, no_ends, ends_at, clocks_at, dim_of, map_ok, map_at, cell_of, cell_at}
 use Rattle.wire.proofs.Cells.{cell_is}
 use Rattle.wire_law.specs.Codes.{word_code, letter_code, event_code, exits_code, end_bits, end_code, clock_bits, ends_code, standing, clocks_bits, map_bits, cell_code}
-use Rattle.wire_law.specs.Laws.{EndFits, EndsFit, Cell-fits}
+use Rattle.wire_law.specs.Laws.{EndFits, EndsFit, CellFits}
 use Rattle.wire_law.proofs.Back.{Back, back_ok, back_then, back_kept, back_same, many_back, take_more_at, joined_more_at, back_byte, back_word}
 
 letter_of_is : (l : Letter) → letter_of (letter_code l) ≡ Some l
@@ -77,7 +77,7 @@ bit_is n k true e = ap (λ (x : ℕ). eqb x 1) e
 bit_is n k false e = ap (λ (x : ℕ). eqb x 1) e
 
 -- the map of a cell has the cell's bits
-module _ (c : Cell) (fit : Cell-fits c) where
+module _ (c : Cell) (fit : CellFits c) where
   clocks_few : clocks_bits c.ends < 64
   clocks_few = subst (λ (n : ℕ). clocks_bits c.ends < 2 ^ n) fit.clocks (clocks_below c.ends)
 
@@ -191,17 +191,17 @@ module _ (s : List ℕ) where
       ∙ (set_at (take k xs) blank rest (get_or xs k blank) k (length-take-le k xs (omega arith))
       ∙ (sym (append_assoc (take k xs) (get_or xs k blank ∷ []) rest) ∙ ap (λ (l : List _). l ++ rest) (sym (take_more_at xs k blank (omega arith)))))))
 
-  back_map : (c : Cell) → Cell-fits c → Back s (map_at s) (word_code (map_bits c)) (map_bits c)
+  back_map : (c : Cell) → CellFits c → Back s (map_at s) (word_code (map_bits c)) (map_bits c)
   back_map c fit = back_kept s (word_at s) map_ok BadBits (λ m. m) (word_code (map_bits c)) (map_bits c) (map_ok_is c fit) (back_word s (map_bits c))
 
-  back_events : (c : Cell) → Cell-fits c → Back s (events_at c.dim s) (flat_map event_code (take c.dim c.events)) c.events
+  back_events : (c : Cell) → CellFits c → Back s (events_at c.dim s) (flat_map event_code (take c.dim c.events)) c.events
   unfolding events_at
   back_events c fit =
       let es = c.events in
       back_same s _ _ _ _ _ refl (ap (λ (l : List Event). take c.dim es ++ l) (sym fit.blank) ∙ take-append-drop c.dim es)
       (row_back (λ _. event_at) event_code no_event es 4 fit.slots c.dim c.few (λ k lt. back_event (get_or es k no_event)))
 
-  back_clocks : (c : Cell) → Cell-fits c → Back s (clocks_at (map_bits c) s) (flat_map ends_code c.ends) c.ends
+  back_clocks : (c : Cell) → CellFits c → Back s (clocks_at (map_bits c) s) (flat_map ends_code c.ends) c.ends
   unfolding clocks_at
   back_clocks c fit =
       let es = c.ends in
@@ -212,7 +212,7 @@ module _ (s : List ℕ) where
       subst (λ (b : Bool). Back s (ends_at b s) (ends_code (get_or es k no_ends)) (get_or es k no_ends)) (sym (clock_back c fit k in'))
       (back_ends (get_or es k no_ends) (All-get_or EndsFit es k no_ends in' fit.ranges))))
 
-  pub back_cell : (c : Cell) → Cell-fits c → Back s (cell_at s) (cell_code c) c
+  pub back_cell : (c : Cell) → CellFits c → Back s (cell_at s) (cell_code c) c
   back_cell c fit =
       let m = map_bits c in
       let events = flat_map event_code (take c.dim c.events) in

@@ -3,7 +3,7 @@ use Rattle.std.proofs.Common.{◌≡◌, ℕ, ◌+◌, ◌-◌, ◌/◌, ◌%◌
 use lib.Signed.{mag}
 use Rattle.std.proofs.lemmas.Int.{ints}
 use Rattle.std.proofs.lemmas.Bool.{ltb-true, ltb-false, eqb-true, eqb-false, le-leb, lt-ltb, le-ltb, eq-eqb, ne_eqb, and_from}
-use Rattle.std.specs.List.{flat_map, AllByRecursion as All}
+use Rattle.std.specs.List.{flat_map, AllByRecursion}
 use Rattle.slip.specs.declared.Refusal.TheVariants.{BadCount}
 use Rattle.clocks.specs.declared.Gap.{Gap}
 use Rattle.clocks.specs.declared.Sign.{Sign}
@@ -100,14 +100,14 @@ module _ (s : List ℕ) (small : Bytes s) where
       )))))
 
   cover_spells : (entries : List (ℕ × List Gap)) (q : ℕ) → cover_at s ≡ Ok (entries, q)
-      → (s ≡ cover_code entries) × (length entries ≤ 256) × All EntryFits entries
+      → (s ≡ cover_code entries) × (length entries ≤ 256) × AllByRecursion EntryFits entries
   unfolding entries_at
   cover_spells entries q h =
       through (count_at 0 256 s 0) _ entries q h (λ n r a h.
       through (entries_at n s r) _ entries q h (λ es t b h.
       through (close_at s t) _ entries q h (λ x u c h.
-      landed (λ (y : List (ℕ × List Gap)) (w : ℕ). (s ≡ cover_code y) × (length y ≤ 256) × All EntryFits y) es entries u q h
-      (passed (λ (y : Unit {0}) (w : ℕ). (s ≡ cover_code es) × (length es ≤ 256) × All EntryFits es) _ _ _ tt x t u c (λ last.
+      landed (λ (y : List (ℕ × List Gap)) (w : ℕ). (s ≡ cover_code y) × (length y ≤ 256) × AllByRecursion EntryFits y) es entries u q h
+      (passed (λ (y : Unit {0}) (w : ℕ). (s ≡ cover_code es) × (length es ≤ 256) × AllByRecursion EntryFits es) _ _ _ tt x t u c (λ last.
       let end = eqb-true t (length s) last in
       let few = count_fits s small 0 256 0 n r a in
       let b' = list_row s entry_at entry_code EntryFits (λ q r e f. entry_spells q e r f) n r es t b in (
@@ -178,7 +178,7 @@ module _ (s : List ℕ) where
       (back_then s (gaps_at (length gs) s) _ rest [] gs e
       (list_back s gap_at gap_code GapFits (record { first = 0; second = 0; sign = Below; constant = pos 0 }) back_gap gs fit.2) (back_ok s e))))
 
-  back_cover : (entries : List (ℕ × List Gap)) → length entries ≤ 256 → All EntryFits entries
+  back_cover : (entries : List (ℕ × List Gap)) → length entries ≤ 256 → AllByRecursion EntryFits entries
       → Rest s 0 (cover_code entries) → (q : ℕ) × (cover_at s ≡ Ok (entries, q))
   unfolding entries_at
   back_cover entries few fit start =

@@ -3,7 +3,7 @@ use Rattle.std.proofs.Common.{◌≡◌, ℕ, zero, suc, ◌-◌, ◌<◌, ◌�
 use Rattle.std.proofs.lemmas.List.{take_all}
 use Rattle.std.proofs.lemmas.Bool.{le-leb, lt-ltb, le-ltb, eq-eqb, cases_eq}
 use Rattle.std.proofs.lemmas.Bool.Decides.{nat_tests}
-use Rattle.std.specs.List.{flat_map, AllByRecursion as All}
+use Rattle.std.specs.List.{flat_map, AllByRecursion}
 use Rattle.slip.specs.declared.Refusal.TheVariants.{BadCount, Surplus}
 use Rattle.wire.specs.declared.cell.Cell.{Cell}
 use Rattle.wire.specs.declared.step.Step.{Step}
@@ -13,7 +13,7 @@ use Rattle.wire.specs.CellFormat.{cell_at}
 use Rattle.wire.specs.StepFormat.{step_at, next_at}
 use Rattle.wire.specs.Files.{value, sized, cells_at, model_at, added, steps_at, trail_at}
 use Rattle.wire_law.specs.Codes.{word_code, long_code, cell_code, model_code, step_code, trail_code}
-use Rattle.wire_law.specs.Laws.{Cell-fits, ModelRead, TrailRead}
+use Rattle.wire_law.specs.Laws.{CellFits, ModelRead, TrailRead}
 use Rattle.wire_law.proofs.Back.{Rest, Back, back_ok, back_from, back_then, back_kept, back_same, many_back, list_back, take_more_at, joined_more_at, back_byte, back_word, back_long}
 use Rattle.wire_law.proofs.CellBack.{back_cell}
 use Rattle.wire_law.proofs.FileSpelling.{step_long, next_code}
@@ -33,11 +33,11 @@ joined_long [] = lit≤ tt
 joined_long (t ∷ ts) = omega (arith, length-append (step_code t) (flat_map step_code ts), step_long t, joined_long ts)
 
 module _ (s : List ℕ) where
-  back_cells : (first : Cell) (cells : List Cell) → All Cell-fits cells → Back s (cells_at (length cells) s) (flat_map cell_code cells) cells
+  back_cells : (first : Cell) (cells : List Cell) → AllByRecursion CellFits cells → Back s (cells_at (length cells) s) (flat_map cell_code cells) cells
   unfolding cells_at
-  back_cells first cells fit = list_back s cell_at cell_code Cell-fits first (back_cell s) cells fit
+  back_cells first cells fit = list_back s cell_at cell_code CellFits first (back_cell s) cells fit
 
-  back_model : (first : ℕ) (c : Cell) (cells : List Cell) → length (c ∷ cells) ≤ 200 → All Cell-fits (c ∷ cells)
+  back_model : (first : ℕ) (c : Cell) (cells : List Cell) → length (c ∷ cells) ≤ 200 → AllByRecursion CellFits (c ∷ cells)
       → Rest s 0 (model_code first (c ∷ cells)) → (q : ℕ) × (model_at s ≡ Ok ((first, c ∷ cells), q))
   back_model first c cells few fit start =
       let all = c ∷ cells in

@@ -2,7 +2,7 @@
 use Rattle.std.proofs.Common.{ℕ, ◌+◌, ◌*◌, ◌<◌, ◌≤◌, Bool, true, false, cond, eqb, List, [], ◌∷◌, ◌++◌, length, take, Some, None, Option, subst, mul-suc, arith, lit<, lit≤, length-append}
 use Rattle.std.proofs.ByRecursion.{All-append, All-take}
 use Rattle.std.proofs.lemmas.List.{length-take-le}
-use Rattle.std.specs.List.{flat_map, AllByRecursion as All}
+use Rattle.std.specs.List.{flat_map, AllByRecursion}
 use Rattle.wire.specs.declared.cell.Letter.{Letter}
 use Rattle.wire.specs.declared.cell.Letter.TheVariants.{Barrier, Display, Read, Write, Sensor}
 use Rattle.wire.specs.declared.cell.Event.{Event}
@@ -12,7 +12,7 @@ use Rattle.wire.specs.declared.cell.Cell.{Cell}
 use Rattle.wire.specs.declared.step.Step.{Step}
 use Rattle.wire.specs.declared.step.Step.TheVariants.{Wait, Start, Finish}
 use Rattle.wire_law.specs.Codes.{word_code, letter_code, event_code, end_bits, end_code, clock_bits, ends_code, map_bits, cell_code, model_code, step_code, trail_code}
-use Rattle.wire_law.specs.Laws.{Bytes, EndFits, EndsFit, EventFits, Cell-fits, StepFits}
+use Rattle.wire_law.specs.Laws.{Bytes, EndFits, EndsFit, EventFits, CellFits, StepFits}
 use Rattle.wire_law.proofs.CellBack.{map_below}
 
 -- bytes, and at most n of them
@@ -25,7 +25,7 @@ both {m} {n} {a} {b} x y =
     record { bytes = All-append (λ n. n < 256) a b x.bytes y.bytes; most = omega (arith, length-append a b) }
 
 pub joined_short : {A : Type 0} (P : A → Type 0) (code : A → List ℕ) (n : ℕ) → ((x : A) → P x → Short n (code x))
-    → (xs : List A) → All P xs → Short (n * length xs) (flat_map code xs)
+    → (xs : List A) → AllByRecursion P xs → Short (n * length xs) (flat_map code xs)
 joined_short P code n each [] fit = record { bytes = tt; most = omega arith }
 joined_short P code n each (x ∷ xs) fit =
     subst (λ (k : ℕ). Short k (flat_map code (x ∷ xs))) (omega (arith, mul-suc n (length xs)))
@@ -65,7 +65,7 @@ ends_short e fit =
     let small : clock_bits e < 256 = omega (arith, bits_below e.low, bits_below e.high) in
     maybe_short (eqb (clock_bits e) 0) (both (one small) (both (end_short e.low fit.0) (end_short e.high fit.1)))
 
-cell_short : (c : Cell) → Cell-fits c → Short 53 (cell_code c)
+cell_short : (c : Cell) → CellFits c → Short 53 (cell_code c)
 cell_short c fit =
     let few = length-take-le c.dim c.events (omega (arith, c.few, fit.slots)) in
     let all = both (word_short (map_bits c) (omega (arith, map_below c fit)))
@@ -74,9 +74,9 @@ cell_short c fit =
     (joined_short EndsFit ends_code 5 ends_short c.ends fit.ranges))) in
     record { bytes = all.bytes; most = omega (arith, all.most, few, c.few, fit.clocks) }
 
-pub model_short : (first : ℕ) (cells : List Cell) → first < 65536 → length cells ≤ 200 → All Cell-fits cells → Short 60000 (model_code first cells)
+pub model_short : (first : ℕ) (cells : List Cell) → first < 65536 → length cells ≤ 200 → AllByRecursion CellFits cells → Short 60000 (model_code first cells)
 model_short first cells lt few fit =
-    let all = both (word_short (length cells) (omega arith)) (both (word_short first lt) (joined_short Cell-fits cell_code 53 cell_short cells fit)) in
+    let all = both (word_short (length cells) (omega arith)) (both (word_short first lt) (joined_short CellFits cell_code 53 cell_short cells fit)) in
     record { bytes = all.bytes; most = omega (arith, all.most) }
 
 step_short : (t : Step) → StepFits t → Short 5 (step_code t)
@@ -84,5 +84,5 @@ step_short (Wait n) h = record { bytes = (lit< tt, (omega arith, (omega arith, (
 step_short (Start c k) h = record { bytes = (lit< tt, (omega (arith, h.0), (omega arith, (h.1, tt)))); most = lit≤ tt }
 step_short (Finish k) h = record { bytes = (lit< tt, (h, tt)); most = lit≤ tt }
 
-pub trail_bytes : (scale : ℕ) (steps : List Step) → scale < 65536 → All StepFits steps → Bytes (trail_code scale steps)
+pub trail_bytes : (scale : ℕ) (steps : List Step) → scale < 65536 → AllByRecursion StepFits steps → Bytes (trail_code scale steps)
 trail_bytes scale steps lt fit = (both (word_short scale lt) (joined_short StepFits step_code 5 step_short steps fit)).bytes

@@ -1,7 +1,7 @@
 -- A reading and the bytes that it went over.
 use Rattle.std.proofs.Common.{◌≡◌, ℕ, zero, suc, ◌+◌, ◌*◌, ◌/◌, ◌%◌, ◌<◌, ◌≤◌, Bool, true, false, List, [], ◌∷◌, ◌++◌, length, get_or, take, drop, set, replicate, Ok, Err, sym, refl, ap, ◌∙◌, subst, inl, inr, append_assoc, arith, length-set}
 use lib.ListN.{length-replicate}
-use Rattle.std.specs.List.{flat_map, AllByRecursion as All}
+use Rattle.std.specs.List.{flat_map, AllByRecursion}
 use Rattle.std.proofs.ByRecursion.{All-get_or, All-push}
 use Rattle.std.proofs.lemmas.List.{drop_more, take_more_set, flat_map_more, length_push, get_or-set_same, get_or-set_other}
 use Rattle.std.proofs.lemmas.Bool.{leb-true, cases_eq}
@@ -78,10 +78,10 @@ set_row {A} s d code P each blank n m le p xs q e =
 pub list_row : {A : Type 0} (s : List ℕ) (d : List ℕ → ℕ → Parsed A) (code : A → List ℕ) (P : A → Type 0)
     → ((q r : ℕ) (x : A) → d s q ≡ Ok (x, r) → Spells s q r (code x) × P x)
     → (n p : ℕ) (xs : List A) (q : ℕ) → many (λ ys _ y. ys ++ y ∷ []) (λ _. d) [] n s p ≡ Ok (xs, q)
-    → Spells s p q (flat_map code xs) × (length xs ≡ n) × All P xs
+    → Spells s p q (flat_map code xs) × (length xs ≡ n) × AllByRecursion P xs
 list_row s d code P each n p xs q e =
     many_keeps (λ ys _ y. ys ++ y ∷ []) (λ _. d) [] s p
-    (λ k ys t. Spells s p t (flat_map code ys) × (length ys ≡ k) × All P ys)
+    (λ k ys t. Spells s p t (flat_map code ys) × (length ys ≡ k) × AllByRecursion P ys)
     (refl, refl, tt) n
     (λ k ys t r y lt inv h.
     let got = each t r y h in (

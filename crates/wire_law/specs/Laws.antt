@@ -1,7 +1,7 @@
 -- What the formats promise: an accepted file has the bytes of what it was read as, and what fits a file is read back from its bytes.
 use Rattle.std.specs.Prelude.{◌≡◌, ℕ, ◌-◌, ◌<◌, ◌≤◌, List, length, drop, replicate, Some, None, Ok, Option}
 use Rattle.std.specs.Int.Signed.{mag}
-use Rattle.std.specs.List.{AllByRecursion as All}
+use Rattle.std.specs.List.{AllByRecursion}
 use Rattle.clocks.specs.declared.Gap.{Gap}
 use Rattle.wire.specs.declared.cell.Event.{Event}
 use Rattle.wire.specs.declared.cell.End.{End}
@@ -14,7 +14,7 @@ use Rattle.wire.specs.Files.{model_file, trail_file, cover_file}
 use Rattle.wire_law.specs.Codes.{model_code, trail_code, cover_code}
 
 abbrev pub Bytes : List ℕ → Type 0
-Bytes s = All (λ b. b < 256) s
+Bytes s = AllByRecursion (λ b. b < 256) s
 
 abbrev pub ModelSpelt : Type 0
 ModelSpelt = (s : List ℕ) (first : ℕ) (cells : List Cell) → Bytes s → model_file s ≡ Ok (first, cells) → s ≡ model_code first cells
@@ -36,13 +36,13 @@ abbrev pub EventFits : Event → Type 0
 EventFits e = (e.lower < 65536) × (e.upper < 65536)
 
 -- four slots for events, blank past the last event, and six clocks
-pub record Cell-fits (c : Cell) : Type 0 where
+pub record CellFits (c : Cell) : Type 0 where
   pub slots : length c.events ≡ 4
   pub blank : drop c.dim c.events ≡ replicate (4 - c.dim) no_event
-  pub faces : All EventFits c.events
+  pub faces : AllByRecursion EventFits c.events
   pub exit : c.exits ≤ 63
   pub clocks : length c.ends ≡ 6
-  pub ranges : All EndsFit c.ends
+  pub ranges : AllByRecursion EndsFit c.ends
 
 abbrev pub StepFits : Step → Type 0
 StepFits (Wait n) = n < 4294967296
@@ -54,35 +54,35 @@ abbrev pub GapFits : Gap → Type 0
 GapFits g = (g.first < 256) × (g.second < 256) × (mag g.constant < 16384)
 
 abbrev pub EntryFits : ℕ × List Gap → Type 0
-EntryFits e = (e.0 < 65536) × (length e.1 < 256) × All GapFits e.1
+EntryFits e = (e.0 < 65536) × (length e.1 < 256) × AllByRecursion GapFits e.1
 
 -- what an accepted file is read as fits a file
 abbrev pub ModelFits : Type 0
 ModelFits =
     (s : List ℕ) (first : ℕ) (cells : List Cell) → Bytes s → model_file s ≡ Ok (first, cells)
-    → (first < 65536) × (1 ≤ length cells) × (length cells ≤ 200) × All Cell-fits cells
+    → (first < 65536) × (1 ≤ length cells) × (length cells ≤ 200) × AllByRecursion CellFits cells
 
 abbrev pub TrailFits : Type 0
 TrailFits =
-    (s : List ℕ) (scale : ℕ) (steps : List Step) → Bytes s → trail_file s ≡ Ok (scale, steps) → (scale < 65536) × All StepFits steps
+    (s : List ℕ) (scale : ℕ) (steps : List Step) → Bytes s → trail_file s ≡ Ok (scale, steps) → (scale < 65536) × AllByRecursion StepFits steps
 
 abbrev pub CoverFits : Type 0
 CoverFits =
-    (s : List ℕ) (entries : List (ℕ × List Gap)) → Bytes s → cover_file s ≡ Ok entries → (length entries ≤ 256) × All EntryFits entries
+    (s : List ℕ) (entries : List (ℕ × List Gap)) → Bytes s → cover_file s ≡ Ok entries → (length entries ≤ 256) × AllByRecursion EntryFits entries
 
 -- every model whose numbers fit has a file, which is read as that model
 abbrev pub ModelRead : Type 0
 ModelRead =
-    (first : ℕ) (cells : List Cell) → first < 65536 → 1 ≤ length cells → length cells ≤ 200 → All Cell-fits cells
+    (first : ℕ) (cells : List Cell) → first < 65536 → 1 ≤ length cells → length cells ≤ 200 → AllByRecursion CellFits cells
     → Bytes (model_code first cells) × (model_file (model_code first cells) ≡ Ok (first, cells))
 
 -- and every trail and every cover, unless its file would be too long
 abbrev pub TrailRead : Type 0
 TrailRead =
-    (scale : ℕ) (steps : List Step) → scale < 65536 → All StepFits steps → length (trail_code scale steps) ≤ 60000
+    (scale : ℕ) (steps : List Step) → scale < 65536 → AllByRecursion StepFits steps → length (trail_code scale steps) ≤ 60000
     → Bytes (trail_code scale steps) × (trail_file (trail_code scale steps) ≡ Ok (scale, steps))
 
 abbrev pub CoverRead : Type 0
 CoverRead =
-    (entries : List (ℕ × List Gap)) → length entries ≤ 256 → All EntryFits entries → length (cover_code entries) ≤ 60000
+    (entries : List (ℕ × List Gap)) → length entries ≤ 256 → AllByRecursion EntryFits entries → length (cover_code entries) ≤ 60000
     → Bytes (cover_code entries) × (cover_file (cover_code entries) ≡ Ok entries)
