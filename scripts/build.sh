@@ -1,5 +1,5 @@
 #!/usr/bin/env bash
-# Proves and builds the programs and the exports: target/bin/judge, target/bin/walk and target/staticlib/libkinds_export.a.
+# Proves and builds the programs and the exports: target/bin/judge, target/bin/walk, target/staticlib/libkinds_export.a and libbench_zone.a.
 set -u
 cd "$(dirname "$0")/.." || exit 1
 mkdir -p target/bin target/staticlib target/bench
@@ -8,5 +8,7 @@ for name in judge walk; do
   (cd "crates/$name" && rt run) >"target/bin/$name.log" 2>&1 || { cat "target/bin/$name.log"; exit 1; }
   cp "crates/$name/out/$name" "target/bin/$name" || exit 1
 done
-(cd crates/kinds_export && rt lib) >target/staticlib/kinds_export.log 2>&1 || { cat target/staticlib/kinds_export.log; exit 1; }
-cp crates/kinds_export/out/libkinds_export.a target/staticlib/ || exit 1
+for name in kinds_export bench_zone; do
+  (cd "crates/$name" && rt lib) >"target/staticlib/$name.log" 2>&1 || { cat "target/staticlib/$name.log"; exit 1; }
+  cp "crates/$name/out/lib$name.a" target/staticlib/ || exit 1
+done
