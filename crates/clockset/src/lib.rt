@@ -16,9 +16,6 @@ pub trait ClockSet: Copy {
     // what each call answers
     ghost calls: { Calls Self };
 
-    // what a closed form answers
-    ghost closings: { Closings Self };
-
     // every reading
     fn all() -> Self
         ensures { result ≡ calls.all };
@@ -58,14 +55,19 @@ pub trait ClockSet: Copy {
         Ok(set)
     }
 
-    // the closed form of the set cut by gaps
-    fn cut_closed(&self, gaps: &[Gap]) -> Result<Self, Slip>
-        ensures { result ≡ (cut_all calls gaps.now self.now ⨾ λ a. Ok (closings.closed a)) }
-    {
-        Ok(self.cut(gaps)?.closed())
-    }
+    // what the calls keep, and that a yes is true
+    ghost sound: { Sound holds calls };
 
-    // the set in a form that is quick to ask, for a set that is asked many times
+    // no yes is missed, and sets with equal readings fare alike
+    ghost sure: { Sure holds calls };
+}
+
+// Kinds that have a form of a set that is quick to ask, for a set that is asked many times.
+pub trait ClosedForms: ClockSet {
+    // what a closed form answers
+    ghost closings: { Closings Self };
+
+    // the set in that form
     fn closed(&self) -> Self
         ensures { result ≡ closings.closed self.now };
 
@@ -77,12 +79,13 @@ pub trait ClockSet: Copy {
     fn closed_is_empty(&self) -> bool
         ensures { result ≡ closings.closed_empty self.now };
 
-    // what the calls keep, and that a yes is true
-    ghost sound: { Sound holds calls };
-
-    // no yes is missed, and sets with equal readings fare alike
-    ghost sure: { Sure holds calls };
+    // the closed form of the set cut by gaps
+    fn cut_closed(&self, gaps: &[Gap]) -> Result<Self, Slip>
+        ensures { result ≡ (cut_all Self.calls gaps.now self.now ⨾ λ a. Ok (closings.closed a)) }
+    {
+        Ok(self.cut(gaps)?.closed())
+    }
 
     // a closed form answers as its set does
-    ghost forms: { Forms calls closings };
+    ghost forms: { Forms Self.calls closings };
 }

@@ -1,5 +1,4 @@
 pub mod Counts
-pub mod Found
 pub mod Rows
 pub mod Steps
 pub mod Sweeps

@@ -1,5 +1,5 @@
 // The caller's table of entries.
-ghost use Rattle.std.specs.Prelude.{◌≡◌, ◌<◌, length, take, slice_set};
+ghost use Rattle.std.specs.Prelude.{◌≡◌, ◌<◌, length, slice_set};
 ghost use Rattle.docket_theory.specs.Worlds.{row_in};
 
 use docket_theory::Entry;
@@ -33,14 +33,6 @@ pub(crate) fn row<S: Copy>(rows: &[Entry<S>], live: u16, i: usize) -> Option<Ent
     } else {
         None
     }
-}
-
-// The live entries of a table.
-pub(crate) fn live_rows<S>(rows: &[Entry<S>], live: u16) -> &[Entry<S>]
-    ensures { result.now ≡ take live rows.now }
-{
-    let n = live as usize;
-    if n < rows.len() { &rows[..n] } else { rows }
 }
 
 pub(crate) fn put_row<S: Copy>(rows: &mut [Entry<S>], i: usize, new: Entry<S>)

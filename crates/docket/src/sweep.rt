@@ -1,40 +1,46 @@
 // Settling every open duty that some entry holds, or that has no reading.
-ghost use Rattle.std.specs.Prelude.{◌≡◌, set, Some, Result, slice_index_or, slice_set};
-ghost use Rattle.slip.specs.declared.Slip.{Slip};
+ghost use Rattle.std.specs.Prelude.{◌≡◌, set, Some, slice_index_or, slice_set};
 ghost use Rattle.model.specs.Whole.{plan_of};
 ghost use Rattle.docket_theory.specs.declared.Duty.TheVariants.{Opening, Leave};
 ghost use Rattle.docket_theory.specs.Docket.{can_hold, lowest_holder, holder_mark, found_mark, swept_mark, steps_out, steps_swept, entries_swept, swept};
 ghost use Rattle.docket_theory.specs.Worlds.{open_mark, row_in};
-ghost use Rattle.images.specs.Departures.{departure, closed_form};
 ghost use Rattle.docket.specs.declared.docket.Docket.{Docket};
 ghost use Rattle.docket.specs.World.{world, world_of, rows_world};
 
 use crate::docket::Docket;
 use crate::duty::steps_from;
-use crate::entries::{Entries, live_rows, row};
+use crate::entries::{Entries, row};
 use crate::marks::{EMPTY, OPEN, STEPS_PER_ENTRY, mark_at, put_mark};
 use clockset::ClockSet;
 use docket_theory::Entry;
-use images::departure::Departure;
-use images::{closed_opening_image, depart, target_of};
+use images::{image_of, opening_image, target_of};
 use model::accepted::Model;
 use model::outgoing::Move;
 use slip::Slip;
 
-// Whether the entry holds the set of that closed form on the cell. Its cell is looked at first, as sets are dear to compare.
-fn holds_on<S: ClockSet>(holder: &Entry<S>, closed: &S, goal: usize) -> bool
-    ensures { (a : S) → closed.now ≡ S.closings.closed a → result ≡ can_hold S.calls a goal (Some holder.now) }
+// Whether the entry holds the set on the cell. Its cell is looked at first, as sets are dear to compare.
+fn holds_on<S: ClockSet>(holder: &Entry<S>, a: &S, goal: usize) -> bool
+    ensures { result ≡ can_hold S.calls a.now goal (Some holder.now) }
 {
-    holder.cell as usize == goal && closed.closed_within(&holder.set)
+    holder.cell as usize == goal && a.within(&holder.set)
 }
 
-// The lowest live entry that holds the set of that closed form on the cell.
-fn lowest_holder<S: ClockSet>(rows: &[Entry<S>], live: u16, closed: &S, goal: usize) -> Option<u16>
-    ensures { (a : S) → closed.now ≡ S.closings.closed a → result ≡ lowest_holder S.calls (rows_world rows.now live) a goal }
+fn can_hold<S: ClockSet>(rows: &[Entry<S>], live: u16, h: usize, a: &S, goal: usize) -> bool
+    ensures { result ≡ can_hold S.calls a.now goal (row_in rows.now live h) }
 {
-    for (h, holder) in live_rows(rows, live).iter().enumerate() {
-        if holds_on(holder, closed, goal) {
-            return Some(h as u16);
+    if h < live as usize && h < rows.len() {
+        holds_on(&rows[h], a, goal)
+    } else {
+        false
+    }
+}
+
+fn lowest_holder<S: ClockSet>(rows: &[Entry<S>], live: u16, a: &S, goal: usize) -> Option<u16>
+    ensures { result ≡ lowest_holder S.calls (rows_world rows.now live) a.now goal }
+{
+    for h in 0..live {
+        if can_hold(rows, live, h as usize, a, goal) {
+            return Some(h);
         }
     }
     None
@@ -49,15 +55,15 @@ fn holder_mark(holder: Option<u16>) -> u16
     }
 }
 
-// The mark by which a duty can be settled whose image has this closed form, and this target.
+// The mark by which a duty with this image and target can be settled.
 fn found_mark<S: ClockSet>(rows: &[Entry<S>], live: u16, goal: usize, found: Result<S, Slip>) -> u16
-    ensures { (image : Result S Slip) → found ≡ closed_form S.closings image → result ≡ found_mark S.calls (rows_world rows.now live) goal image }
+    ensures { result ≡ found_mark S.calls (rows_world rows.now live) goal found }
 {
     match found {
-        Ok(closed) => if closed.closed_is_empty() {
+        Ok(a) => if a.is_empty() {
             EMPTY
         } else {
-            holder_mark(lowest_holder(rows, live, &closed, goal))
+            holder_mark(lowest_holder(rows, live, &a, goal))
         },
         Err(_) => OPEN,
     }
@@ -71,20 +77,13 @@ fn sweep_step<S: ClockSet>(
     marks: &mut [u16],
     place: usize,
     from: &Entry<S>,
-    leaving: &Departure<S>,
     step: Move,
 )
-    requires { leaving.now ≡ departure S.calls (plan_of model.now) from.now }
     ensures { marks.new ≡ slice_set marks.old place (swept_mark S.calls (plan_of model.now) (rows_world rows.now live) (Some (Leave from.now step)) (slice_index_or marks.old place open_mark)) }
 {
     if mark_at(marks, place) == OPEN {
         let goal = target_of(model, from.cell as usize, step);
-        let mark = found_mark(
-            rows,
-            live,
-            goal,
-            leaving.closed_image(model, from.cell as usize, step),
-        );
+        let mark = found_mark(rows, live, goal, image_of(model, from, step));
         put_mark(marks, place, mark);
     }
 }
@@ -95,7 +94,6 @@ fn sweep_entry<S: ClockSet>(model: &Model, rows: &[Entry<S>], live: u16, marks: 
 {
     if let Some(from) = row(rows, live, i as usize) {
         let moves = steps_from(model, from.cell);
-        let leaving = depart(model, &from);
         for j in 0..moves.count {
             sweep_step(
                 model,
@@ -104,7 +102,6 @@ fn sweep_entry<S: ClockSet>(model: &Model, rows: &[Entry<S>], live: u16, marks: 
                 marks,
                 i as usize * STEPS_PER_ENTRY + j,
                 &from,
-                &leaving,
                 moves.list[j],
             );
         }
@@ -124,7 +121,7 @@ impl Docket {
         ensures { self.new ≡ record { opening = swept_mark S.calls (plan_of model.now) (rows_world rows.now live) (Some Opening) self.old.opening; trail = self.old.trail } }
     {
         if self.opening == OPEN {
-            self.opening = found_mark(rows, live, model.first, closed_opening_image::<S>(model));
+            self.opening = found_mark(rows, live, model.first, opening_image::<S>(model));
         }
     }
     // Settles the duties that can be, the opening duty first and then entry by entry, and says how many stay open.

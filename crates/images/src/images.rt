@@ -8,7 +8,7 @@ ghost use Rattle.images.specs.Departures.{departure, onward, image_from, closed_
 
 use crate::departure::Departure;
 use crate::gaps::gaps_of;
-use clockset::ClockSet;
+use clockset::{ClockSet, ClosedForms};
 use docket_theory::Entry;
 use model::accepted::Model;
 use model::outgoing::Move;
@@ -24,7 +24,7 @@ fn cut_by<S: ClockSet>(a: &S, cell: &Cell) -> Result<S, Slip>
 }
 
 // The closed form of these readings.
-fn cut_closed_by<S: ClockSet>(a: &S, cell: &Cell) -> Result<S, Slip>
+fn cut_closed_by<S: ClosedForms>(a: &S, cell: &Cell) -> Result<S, Slip>
     ensures { result ≡ closed_form S.closings (cut_by S.calls cell.now a.now) }
 {
     let gaps = gaps_of(cell);
@@ -92,8 +92,10 @@ impl<S: ClockSet> Departure<S> {
         let a = self.onward(step)?;
         cut_by(&a, &model.cell(target_of(model, c, step)))
     }
+}
 
-    // The closed form of this.
+impl<S: ClosedForms> Departure<S> {
+    // The closed form of what a step out of cell c makes of the set.
     pub fn closed_image(&self, model: &Model, c: usize, step: Move) -> Result<S, Slip>
         ensures { result ≡ closed_form S.closings (image_from S.calls (plan_of model.now) c self.now step) }
     {
@@ -117,7 +119,7 @@ pub fn opening_image<S: ClockSet>(model: &Model) -> Result<S, Slip>
 }
 
 // The closed form of this.
-pub fn closed_opening_image<S: ClockSet>(model: &Model) -> Result<S, Slip>
+pub fn closed_opening_image<S: ClosedForms>(model: &Model) -> Result<S, Slip>
     ensures { result ≡ closed_form S.closings (opening_image S.calls (plan_of model.now)) }
 {
     cut_closed_by(&S::zero(), &model.cell(model.first))

@@ -90,7 +90,7 @@ mod weights {
 #[cfg(test)]
 mod kinds {
     use clocks::{Gap, Sign};
-    use clockset::ClockSet;
+    use clockset::{ClockSet, ClosedForms};
     use order_set::OrderSet;
     use slip::Slip;
     use std::process::Abort;
@@ -167,7 +167,7 @@ mod kinds {
         Ok(())
     }
 
-    fn closed_forms<S: ClockSet>(rt: &impl Abort, all: S, zero: S) -> Result<(), Fail> {
+    fn closed_forms<S: ClosedForms>(rt: &impl Abort, all: S, zero: S) -> Result<(), Fail> {
         let none = zero.gap(below(1, 2, 0))?.closed();
         assert!(rt; none.closed_is_empty());
         assert!(rt; none.closed_within(&none));

@@ -17,7 +17,7 @@ ghost use Rattle.order_set.specs.Facts.{all_in, zero_exact, gap_exact, gap_stand
 ghost use Rattle.clockset.proofs.Fares.{fare_same};
 
 use clocks::{Gap, Sign};
-use clockset::ClockSet;
+use clockset::{ClockSet, ClosedForms};
 use matrix::{canonicalize, cut_form, delay_form, is_good_gap, reset_form, tighten, within_form};
 use slip::{Refusal, Slip};
 use weight::OrderSign;
@@ -70,8 +70,6 @@ impl ClockSet for OrderSet {
 
     ghost calls = { order_calls };
 
-    ghost closings = { order_closings };
-
     ghost sound = { record {
       all_in = λ s v p six. all_in s v;
       zero_in = λ s p. (zero_exact s zero_reading p refl).1 refl;
@@ -96,8 +94,6 @@ impl ClockSet for OrderSet {
       reset_alike = λ a b mask same. fare_same order_holds (order_reset a mask) (order_reset b mask) (reset_same a b same mask);
       delay_alike = λ a b same. fare_same order_holds (order_delay a) (order_delay b) (delay_same a b same);
     } };
-
-    ghost forms = { record { closed_within_is = λ a b. refl; closed_empty_is = λ a. refl } };
 
     fn all() -> OrderSet {
         let mut signs = [OrderSign::Free; 49];
@@ -169,6 +165,12 @@ impl ClockSet for OrderSet {
         let mut m = load(self);
         !canonicalize(&mut m)
     }
+}
+
+impl ClosedForms for OrderSet {
+    ghost closings = { order_closings };
+
+    ghost forms = { record { closed_within_is = λ a b. refl; closed_empty_is = λ a. refl } };
 
     // an order set is asked as it is
     fn closed(&self) -> OrderSet {

@@ -24,7 +24,7 @@ ghost use Rattle.clockset.proofs.Fares.{fare_same};
 ghost use Rattle.zone.specs.Forms.{closed_within_is, closed_empty_is};
 
 use clocks::{Gap, Sign};
-use clockset::ClockSet;
+use clockset::{ClockSet, ClosedForms};
 use matrix::{canonicalize, cut, cut_form, delay_form, is_good_gap, reset_form, tighten};
 use slip::{Refusal, Slip};
 use weight::{Bound, Weight, all_small, all_within};
@@ -48,11 +48,7 @@ pub struct Zone {
 fn read(b: Bound) -> Bound
     ensures { limit_of result ≡ read_limit b }
 {
-    if b.is_within(MOST_CONSTANT) {
-        b
-    } else {
-        Bound::free()
-    }
+    if b.is_small() { b } else { Bound::free() }
 }
 
 fn load(zone: &Zone) -> [Bound; 49]
@@ -157,8 +153,6 @@ impl ClockSet for Zone {
 
     ghost calls = { zone_calls };
 
-    ghost closings = { zone_closings };
-
     ghost sound = { record {
       all_in = λ s v p six. all_in s v;
       zero_in = λ s p. (zero_exact s zero_reading p refl).1 refl;
@@ -181,8 +175,6 @@ impl ClockSet for Zone {
       reset_alike = λ a b mask same. fare_same zone_holds (zone_reset a mask) (zone_reset b mask) (reset_same a b same mask);
       delay_alike = λ a b same. fare_same zone_holds (zone_delay a) (zone_delay b) (delay_same a b same);
     } };
-
-    ghost forms = { record { closed_within_is = closed_within_is; closed_empty_is = closed_empty_is } };
 
     fn all() -> Zone {
         let mut bounds = [Bound::free(); 49];
@@ -268,6 +260,12 @@ impl ClockSet for Zone {
         canonicalize(&mut m);
         Ok(Zone { bounds: m })
     }
+}
+
+impl ClosedForms for Zone {
+    ghost closings = { zone_closings };
+
+    ghost forms = { record { closed_within_is = closed_within_is; closed_empty_is = closed_empty_is } };
 
     // What a gap leaves is closed.
     fn cut_closed(&self, gaps: &[Gap]) -> Result<Zone, Slip> {

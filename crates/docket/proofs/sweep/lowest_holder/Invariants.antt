@@ -6,5 +6,4 @@ use Rattle.docket.proofs.sweep.lowest_holder.Given as goal
 
 abbrev pub invariant-loop-h : goal.invariant-loop-h
 invariant-loop-h g l =
-    (a : g.row.S.Denot) → l.closed ≡ g.S.ClockSet.closings.closed a
-    → first_bad l.h (λ h. not (can_hold g.S.ClockSet.calls a l.goal (row_in l.rows l.live h))) ≡ None
+    first_bad l.h (λ h. not (can_hold g.S.ClockSet.calls l.a l.goal (row_in l.rows l.live h))) ≡ None

@@ -3,7 +3,7 @@ use Rattle.weight.specs.Bounds.{limit_of}
 use Rattle.zone.specs.Zones.{formed, limit_list}
 use Rattle.zone.specs.Forms.{formed_is}
 use Rattle.zone.specs.Kept.{stored_one}
-use Rattle.zone.proofs.ZoneClockSet.closed.Goals as goal
+use Rattle.zone.proofs.ZoneClosedForms.closed.Goals as goal
 
 pub returns : goal.returns
 returns c =

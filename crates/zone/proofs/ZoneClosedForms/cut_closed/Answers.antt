@@ -1,7 +1,7 @@
 use Rattle.std.proofs.Common.{Ok, sym, ap, ◌∙◌}
 use Rattle.zone.specs.declared.Zone.{Zone}
 use Rattle.zone.specs.Forms.{cut_leaves_closed, cut_by_none}
-use Rattle.zone.proofs.ZoneClockSet.cut_closed.Goals as goal
+use Rattle.zone.proofs.ZoneClosedForms.cut_closed.Goals as goal
 
 pub returns-then-is_empty : goal.returns-then-is_empty
 returns-then-is_empty c =
