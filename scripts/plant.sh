@@ -1,6 +1,7 @@
 #!/usr/bin/env bash
 # Plants bugs in a copy of the repository, one at a time, and prints a row of a table for each: what was planted, where, and the goal that
-# the prover did not accept. It ends with 1 if a planted bug was proved, or if an edit is bad.
+# the prover did not accept. It ends with 1 if a planted bug was proved, if an edit is bad, or if a
+# proof fails only because a name that it cites is gone (that would say nothing of the contract).
 #   scripts/plant.sh [CRATE | EDIT ...]     all edits of planted/CRATE/, or single ones, as crates/CRATE/must-fail/NAME.edit; default: all of planted/
 # An edit has the form of the must-fail edits; its first comment says what it plants. The checks begin with what earlier ones kept, so it is no
 # verdict: the edits that stand in crates/*/must-fail are tried by the gate.
@@ -50,7 +51,11 @@ for crate in "${crates[@]}"; do
         if [ -n "$row" ]; then
             says=$row
         else
-            case $says in refused*) ;; *) failed=1 says="**${says:-NOT TRIED}**" ;; esac
+            case $says in
+            "refused, as it must be (only because"*) failed=1 says="**by a name alone**: a proof cites what the edit took away" ;;
+            refused*) ;;
+            *) failed=1 says="**${says:-NOT TRIED}**" ;;
+            esac
         fi
         name=${name%.edit}
         echo "| \`$crate\` | ${what:-${name//_/ }} | ${says:0:160} |"
