@@ -7,77 +7,82 @@ ghost use Rattle.slip.specs.Line.{slip_line};
 
 use std::fmt;
 
-// One case for each reason to refuse, in the order of their numbers.
+// Who refuses, lowest first.
+#[derive(Clone, Copy)]
+enum Layer {
+    Bytes = 1,
+    Model = 2,
+    ClockSet = 3,
+    Docket = 4,
+}
+
+// One case for each reason to refuse, with the number that reports and listings know it by.
 #[derive(Clone, Copy, PartialEq, Eq, Debug)]
 pub enum Refusal {
     // bytes
-    Truncated,
-    BadCount,
-    BadBits,
-    OutOfRange,
-    Surplus,
+    Truncated = 1,
+    BadCount = 2,
+    BadBits = 3,
+    OutOfRange = 4,
+    Surplus = 5,
     // model
-    NoSuchCell,
-    WrongLetters,
-    BrokenIdentity,
-    BusyCell,
-    TooManySteps,
+    NoSuchCell = 6,
+    WrongLetters = 7,
+    BrokenIdentity = 8,
+    BusyCell = 9,
+    TooManySteps = 10,
     // sets and docket
-    BadArgument,
-    DocketFull,
-    Unknown,
-    EmptySet,
-    OtherCell,
-    BoundTooLarge,
-    NotHeld,
-    BadScale,
-    NoTrail,
-    NotThere,
-    CountTooLarge,
-    NoConfiguration,
+    BadArgument = 11,
+    DocketFull = 12,
+    Unknown = 13,
+    EmptySet = 14,
+    OtherCell = 15,
+    BoundTooLarge = 16,
+    NotHeld = 17,
+    BadScale = 18,
+    NoTrail = 19,
+    NotThere = 20,
+    CountTooLarge = 21,
+    NoConfiguration = 22,
 }
 
 impl Refusal {
-    // The number that reports and listings know the refusal by.
-    pub fn number(self) -> u8
-        ensures { result ≡ number self }
+    // The refusal with the place of the fault.
+    pub fn at(self, place: usize) -> Slip
+        ensures { result ≡ record { refusal = self; place = place } }
     {
-        match self {
-            Refusal::Truncated => 1,
-            Refusal::BadCount => 2,
-            Refusal::BadBits => 3,
-            Refusal::OutOfRange => 4,
-            Refusal::Surplus => 5,
-            Refusal::NoSuchCell => 6,
-            Refusal::WrongLetters => 7,
-            Refusal::BrokenIdentity => 8,
-            Refusal::BusyCell => 9,
-            Refusal::TooManySteps => 10,
-            Refusal::BadArgument => 11,
-            Refusal::DocketFull => 12,
-            Refusal::Unknown => 13,
-            Refusal::EmptySet => 14,
-            Refusal::OtherCell => 15,
-            Refusal::BoundTooLarge => 16,
-            Refusal::NotHeld => 17,
-            Refusal::BadScale => 18,
-            Refusal::NoTrail => 19,
-            Refusal::NotThere => 20,
-            Refusal::CountTooLarge => 21,
-            Refusal::NoConfiguration => 22,
+        Slip {
+            refusal: self,
+            place,
         }
     }
 
-    // The layer that refused: 1 bytes, 2 model, 3 clock set, 4 docket.
+    // The number that reports print for the case: a number, since a report's line has it.
+    pub fn number(self) -> u8
+        ensures { result ≡ number self }
+    {
+        self as u8
+    }
+
+    // The number that reports print for the layer that refused, likewise.
     pub fn layer(self) -> u8
         ensures { result ≡ layer self }
     {
-        match self.number() {
-            1..=5 => 1,
-            6..=10 => 2,
-            11 | 16 => 3,
-            _ => 4,
-        }
+        let layer = match self {
+            Refusal::Truncated
+            | Refusal::BadCount
+            | Refusal::BadBits
+            | Refusal::OutOfRange
+            | Refusal::Surplus => Layer::Bytes,
+            Refusal::NoSuchCell
+            | Refusal::WrongLetters
+            | Refusal::BrokenIdentity
+            | Refusal::BusyCell
+            | Refusal::TooManySteps => Layer::Model,
+            Refusal::BadArgument | Refusal::BoundTooLarge => Layer::ClockSet,
+            _ => Layer::Docket,
+        };
+        layer as u8
     }
 }
 
