@@ -32,6 +32,8 @@ refusal() {
     at=$(sed -nE 's/^refused, as it must be: .*(src\/[a-z_/]+\.rt):([0-9]+):.*\(`([^`]*).*/\1 \2 \3/p' <<<"$2")
     if [ -n "$at" ]; then
         read -r at line goal <<<"$at"
+        # a function with an attribute begins at the attribute
+        while sed -n "${line}p" "$1/$at" | grep -q '^ *#\['; do line=$((line + 1)); done
         echo "$(head -n "$line" "$1/$at" | sed -nE 's/^ *(pub(\([a-z]+\))? )?(extern "C" )?fn ([A-Za-z0-9_]+).*/\4/p' | tail -n 1): \`$goal\`"
     else
         sed -nE 's/^refused, as it must be: [^ ]*proofs\/(.*)\/[A-Za-z]+\.antt:[0-9:]* error: `([^`]*)`.*/\1: `\2`/p' <<<"$2" | sed 's|^.*/||'

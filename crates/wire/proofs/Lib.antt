@@ -1,1 +1,2 @@
 pub use Rattle.wire_cells.proofs.Cells
+pub use Rattle.wire_trail.proofs.Steps

@@ -1,6 +1,9 @@
 // The model file, and beside it the trail file and the cover file.
 ghost use Rattle.std.specs.Prelude.{◌≡◌, IfOk, vec_len};
 ghost use Rattle.wire_fields.specs.Faults.{Gives, Heeds};
+ghost use Rattle.wire_fields.specs.Readers.{Gathers};
+ghost use Rattle.wire_cells.specs.CellFormat.{cell_at};
+ghost use Rattle.wire_cells.specs.declared.cell.Cell.{Cell};
 ghost use Rattle.wire.specs.Files.{cells_at, model_file, model_head, model_seen};
 
 use crate::model::ModelFile;
@@ -10,19 +13,28 @@ use wire_cells::read::read_cell;
 pub use wire_cover::read::cover_file;
 use wire_fields::fault::Fault;
 use wire_fields::reader::{Reader, fits};
+use wire_fields::record::{Record, read_many};
 pub use wire_trail::read::trail_file;
 
-fn cells_of(heap: Global, reader: &mut Reader<'_>, count: u16) -> Result<Vec<Cell>, Fault>
-    ensures reads { Gives (λ v. (v.items, reader.new.at)) result (cells_at count reader.old.bytes.now reader.old.at) }
-    ensures same { reader.new.bytes ≡ reader.old.bytes }
+// A model holds many.
+impl Record<ModelFile> for Cell {
+    ghost Seen = { Cell };
+
+    ghost seen = { λ cell. cell };
+
+    ghost stands = { cell_at };
+
+    fn read(reader: &mut Reader<'_>, _heap: Global) -> Result<Cell, Fault> {
+        let cell = read_cell(reader)?;
+        Ok(cell)
+    }
+}
+
+fn read_cells(reader: &mut Reader<'_>, heap: Global, count: u16) -> Result<Vec<Cell>, Fault>
+    ensures reads { Gathers (λ v. v.items) (cells_at count) reader.old reader.new result }
     ensures counted { IfOk result (λ v. vec_len v ≡ count) }
 {
-    let mut cells = Vec::new(heap);
-    for _k in 0..count {
-        let cell = read_cell(reader)?;
-        cells.push(cell)?;
-    }
-    Ok(cells)
+    read_many::<ModelFile, _>(reader, heap, usize::from(count))
 }
 
 pub fn model_file(heap: Global, bytes: &[u8]) -> Result<ModelFile, Fault>
@@ -33,7 +45,7 @@ pub fn model_file(heap: Global, bytes: &[u8]) -> Result<ModelFile, Fault>
     let mut reader = Reader { bytes, at: 0 };
     let count = reader.count(1, 200)?;
     let first = reader.word()?;
-    let cells = cells_of(heap, &mut reader, count)?;
+    let cells = read_cells(&mut reader, heap, count)?;
     reader.close()?;
     Ok(ModelFile { first, cells })
 }

@@ -38,9 +38,12 @@ no_event = record { letter = Barrier; lower = 0; upper = 0 }
 unfoldable pub events_at : ℕ → List ℕ → ℕ → Parsed (List Event)
 events_at n s p = many slice_set (λ _. event_at) (replicate 4 no_event) n s p
 
+abbrev pub exit_set_at : List ℕ → ℕ → Parsed ℕ
+exit_set_at s p = byte_at s p ⨟ λ e q. kept (nat_le 1 e && nat_le e 63) OutOfRange p e q
+
 -- the exit set, where the map has one
 abbrev pub exits_at : Bool → List ℕ → ℕ → Parsed ℕ
-exits_at has s p = cond has (byte_at s p ⨟ λ e q. kept (nat_le 1 e && nat_le e 63) OutOfRange p e q) (Ok (0, p))
+exits_at has s p = cond has (exit_set_at s p) (Ok (0, p))
 
 unfoldable pub clocks_at : ℕ → List ℕ → ℕ → Parsed (List Ends)
 clocks_at m s p = many slice_set (λ k. ends_at (bit m (k + 6))) (replicate 6 no_ends) 6 s p

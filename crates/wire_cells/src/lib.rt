@@ -2,4 +2,5 @@
 #![tactic(auto)]
 
 pub mod cell;
+pub mod letter;
 pub mod read;

@@ -21,6 +21,11 @@ flags_ok f =
 abbrev pub flags_at : List ℕ → ℕ → Parsed ℕ
 flags_at s p = byte_at s p ⨟ λ f q. kept (flags_ok f) BadBits p f q
 
+-- an end that is there
+abbrev pub there_at : Bool → List ℕ → ℕ → Parsed End
+there_at o s p = word_at s p ⨟ λ u q. kept (nat_le u 9999) OutOfRange p (record { units = u; «open» = o }) q
+
+-- an end, where the byte has one
 abbrev pub end_at : Bool → Bool → List ℕ → ℕ → Parsed (Option End)
 end_at has o s p =
     cond has (word_at s p ⨟ λ u q. kept (nat_le u 9999) OutOfRange p (Some (record { units = u; «open» = o })) q) (Ok (None, p))

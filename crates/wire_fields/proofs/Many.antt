@@ -1,20 +1,32 @@
--- Readings in a row: one more, and a refused one.
-use Rattle.std.proofs.Common.{◌≡◌, ℕ, zero, suc, ◌+◌, ◌<◌, List, IsErrAnd, Ok, Err, Result, sym, refl, ap, ◌∙◌, subst, inl, inr, add-one, arith}
+-- Readings in a row: none, one more, and a refused one.
+use Rattle.std.proofs.Common.{◌≡◌, ℕ, zero, suc, ◌+◌, ◌<◌, List, map, Vec, Global, vec_items, IsErrAnd, Ok, Err, Result, sym, refl, ap, ◌∙◌, subst, inl, inr, add-one, arith}
 use Rattle.std.proofs.lemmas.Bool.{cases_order}
+use Rattle.std.proofs.lemmas.List.{map-id}
 use Rattle.slip.specs.declared.Slip.{Slip}
 use Rattle.wire_fields.specs.declared.fault.Fault.{Fault}
 use Rattle.wire_fields.specs.declared.fault.Fault.TheVariants.{Refused, Memory}
-use Rattle.wire_fields.specs.Faults.{Gives}
-use Rattle.wire_fields.specs.Reading.{Parsed, many, Reads}
+use Rattle.wire_fields.specs.declared.reader.Reader.{Reader}
+use Rattle.wire_fields.specs.Reading.{Parsed, many}
+use Rattle.wire_fields.specs.Readers.{Takes, Gathers}
+
+-- from the old reader to the new one k things were read, and they made xs
+pub record HasRead {A C : Type 0} (put : C → ℕ → A → C) (d : ℕ → List ℕ → ℕ → Parsed A) (es : C) (k : ℕ) (xs : C) (old new : Reader) : Type 0 where
+  pub reads : many put d es k old.bytes.now old.at ≡ Ok (xs, new.at)
+  pub same : new.bytes ≡ old.bytes
 
 module _ {A C : Type 0} (put : C → ℕ → A → C) (d : ℕ → List ℕ → ℕ → Parsed A) (es : C) where
-  pub many_more : (s t : List ℕ) (p k q r : ℕ) (xs : C) (x : A) → t ≡ s → many put d es k s p ≡ Ok (xs, q) → d k t q ≡ Ok (x, r)
-      → many put d es (k + 1) s p ≡ Ok (put xs k x, r)
+  pub has_read_none : (old : Reader) → HasRead put d es 0 es old old
   unfolding many
-  many_more s t p k q r xs x same e h =
-      rw (add-one, e) (rw (sym same) (rw h refl))
+  has_read_none old = record { reads = refl; same = refl }
 
-  pub many_stop : (s t : List ℕ) (p k n q : ℕ) (xs : C) (e : Slip) → k < n → t ≡ s → many put d es k s p ≡ Ok (xs, q) → d k t q ≡ Err e
+  pub has_read_more : (k : ℕ) (xs : C) (old mid new : Reader) (x : A) → HasRead put d es k xs old mid → Takes (d k) mid new (Ok x)
+      → HasRead put d es (k + 1) (put xs k x) old new
+  unfolding many
+  has_read_more k xs old mid new x i h =
+      record { reads = rw (add-one, i.reads) (rw (ap (λ b. b.now) (sym i.same)) (rw h.reads refl)); same = h.same ∙ i.same }
+
+  -- where reading k is refused, so are all n
+  many_stop : (s t : List ℕ) (p k n q : ℕ) (xs : C) (e : Slip) → k < n → t ≡ s → many put d es k s p ≡ Ok (xs, q) → d k t q ≡ Err e
       → many put d es n s p ≡ Err e
   unfolding many
   many_stop s t p k zero q xs e lt same i h = absurd (omega arith)
@@ -25,21 +37,30 @@ module _ {A C : Type 0} (put : C → ℕ → A → C) (d : ℕ → List ℕ → 
         | inr (inr g) ↦ absurd (omega arith)
       ]
 
--- the exit of a `?`
-pub exits : {A : Type 0} (r : Result A Slip) (q : ℕ) (d : Parsed A) (e : Slip) → IsErrAnd r (λ y. y ≡ e) → d ≡ Err e → Reads r q d
-exits (Ok x) q d e h f = absurd h
-exits (Err y) q d e h f = f ∙ ap Err (sym h)
+  pub has_read_stop : (k n : ℕ) (xs : C) (old mid new : Reader) (e : Slip) (r : Result C Slip) → k < n → HasRead put d es k xs old mid
+      → Takes (d k) mid new (Err e) → IsErrAnd r (λ y. y ≡ e) → Takes (many put d es n) old new r
+  has_read_stop k n xs old mid new e (Ok x) lt i h f = absurd f
+  has_read_stop k n xs old mid new e (Err y) lt i h f =
+      record {
+        reads = many_stop _ _ _ _ _ _ _ _ lt (ap (λ b. b.now) i.same) i.reads h.reads ∙ ap Err (sym f);
+        same = h.same ∙ i.same;
+      }
 
--- the exit of a `?` in a call that allocates
-pub refuses : {A B : Type 0} (view : A → B) (r : Result A Fault) (d : Result B Slip) (e : Slip) → IsErrAnd r (λ y. y ≡ Refused e) → d ≡ Err e → Gives view r d
-refuses view (Ok x) d e h f = absurd h
-refuses view (Err (Refused y)) d e h f = f ∙ ap Err (cc)
-refuses view (Err Memory) d e h f = tt
+  -- and so where it is refused, or memory is wanting, in a call that allocates
+  pub has_read_fault : {T U : Type 0} (one : T → A) (all : U → C) (k n : ℕ) (xs : C) (old mid new : Reader) (e : Fault) (r : Result U Fault) → k < n
+      → HasRead put d es k xs old mid → Gathers one (d k) mid new (Err e) → IsErrAnd r (λ y. y ≡ e) → Gathers all (many put d es n) old new r
+  has_read_fault one all k n xs old mid new e (Ok x) lt i h f = absurd f
+  has_read_fault one all k n xs old mid new (Refused e) (Err (Refused y)) lt i h f =
+      record {
+        reads = many_stop _ _ _ _ _ _ _ _ lt (ap (λ b. b.now) i.same) i.reads h.reads ∙ ap Err (cc);
+        same = h.same ∙ i.same;
+      }
+  has_read_fault one all k n xs old mid new e (Err Memory) lt i h f = record { reads = tt; same = h.same ∙ i.same }
+  has_read_fault one all k n xs old mid new Memory (Err (Refused y)) lt i h f = cc
 
--- the exit of a `?` on a call that itself allocates
-pub passes_on : {A B D : Type 0} (view : A → B) (r : Result A Fault) (d : Result B Slip) (x : Result D Slip) (f : Fault)
-    → IsErrAnd r (λ y. y ≡ f) → Gives {A = D} (λ y. y) (Err f) x → ((e : Slip) → x ≡ Err e → d ≡ Err e) → Gives view r d
-passes_on view r d x (Refused e) h g k = refuses view r d e h (k e g)
-passes_on view (Ok v) d x Memory h g k = absurd h
-passes_on view (Err (Refused y)) d x Memory h g k = let n : ◌≡◌ {A = ℕ} 0 1 = cc in absurd (omega arith)
-passes_on view (Err Memory) d x Memory h g k = tt
+-- what is seen as it is
+pub seen_as_it_is : {T : Type 0} (d : List ℕ → ℕ → Parsed (List T)) (old new : Reader) (r : Result (Vec T Global) Fault)
+    → Gathers (λ v. map (λ x. x) (vec_items v)) d old new r → Gathers (λ v. vec_items v) d old new r
+seen_as_it_is d old new (Ok v) h = record { reads = h.reads ∙ rw map-id refl; same = h.same }
+seen_as_it_is d old new (Err (Refused e)) h = record { reads = h.reads; same = h.same }
+seen_as_it_is d old new (Err Memory) h = record { reads = h.reads; same = h.same }

@@ -1,5 +1,5 @@
 -- Reading fields from the front of a file: what stands at a place, and where the next field begins.
-use Rattle.std.specs.Prelude.{◌≡◌, ℕ, zero, suc, ◌+◌, ◌-◌, ◌*◌, Bool, cond, ◌&&◌, List, length, ℤ, pos, negsuc, Ok, Err, Result, ◌==◌, nat_le, nat_lt, slice_index}
+use Rattle.std.specs.Prelude.{◌≡◌, ℕ, zero, suc, ◌+◌, ◌-◌, ◌*◌, Bool, cond, ◌&&◌, List, [], ◌∷◌, ◌++◌, length, take, drop, ℤ, pos, negsuc, Ok, Err, Result, ◌==◌, nat_le, nat_lt, slice_index}
 use Rattle.slip.specs.declared.Refusal.{Refusal}
 use Rattle.slip.specs.declared.Refusal.TheVariants.{Truncated, BadCount, Surplus}
 use Rattle.slip.specs.declared.Slip.{Slip}
@@ -18,8 +18,11 @@ Ok x ⨟ f = f x.0 x.1
 Err e ⨟ f = Err e
 
 -- the value v of a field of n bytes at p
-abbrev pub field : List ℕ → ℕ → ℕ → ℕ → Parsed ℕ
+abbrev pub field : {A : Type 0} → List ℕ → ℕ → ℕ → A → Parsed A
 field s p n v = cond (nat_le (p + n) (length s)) (Ok (v, p + n)) (Err (slip Truncated p))
+
+abbrev pub chunk_at : ℕ → List ℕ → ℕ → Parsed (List ℕ)
+chunk_at n s p = field s p n (take n (drop p s))
 
 abbrev pub byte_at : List ℕ → ℕ → Parsed ℕ
 byte_at s p = field s p 1 (slice_index s p)
@@ -54,6 +57,10 @@ close_at s p = kept (p == length s) Surplus p tt p
 unfoldable pub many : {A C : Type 0} → (C → ℕ → A → C) → (ℕ → List ℕ → ℕ → Parsed A) → C → ℕ → List ℕ → ℕ → Parsed C
 many put d es zero s p = Ok (es, p)
 many put d es (suc n) s p = many put d es n s p ⨟ λ xs q. d n s q ⨟ λ x r. Ok (put xs n x, r)
+
+-- n records in a row, each as d says
+abbrev pub records_at : {A : Type 0} → (List ℕ → ℕ → Parsed A) → ℕ → List ℕ → ℕ → Parsed (List A)
+records_at d n s p = many (λ xs _ x. xs ++ x ∷ []) (λ _. d) [] n s p
 
 -- the code's result r, with the reader at q afterwards, is what d says
 abbrev pub Reads : {A : Type 0} → Result A Slip → ℕ → Parsed A → Type 0

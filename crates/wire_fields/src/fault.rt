@@ -6,12 +6,13 @@ use slip::Slip;
 use std::alloc::{AllocError, AllocFailed};
 
 // The file is refused, or there is no memory for what it holds, which says nothing of the file.
-#[derive(Clone, Copy)]
+#[derive(Clone, Copy, PartialEq, Eq, Debug)]
 pub enum Fault {
     Refused(Slip),
     Memory,
 }
 
+// These are written out, since clauses name the fault that a `?` makes.
 impl From<Slip> for Fault {
     ghost from_gives = { λ s f. f ≡ Turned s };
 

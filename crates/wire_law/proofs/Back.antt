@@ -1,7 +1,8 @@
 -- Bytes read back.
 use Rattle.std.proofs.Common.{◌≡◌, ℕ, zero, suc, ◌+◌, ◌/◌, ◌%◌, ◌<◌, ◌≤◌, Bool, true, List, [], ◌∷◌, ◌++◌, length, get_or, take, drop, Ok, sym, refl, ap, ◌∙◌, subst, append_assoc, append-nil, arith, length-drop}
 use Rattle.std.proofs.ByRecursion.{All-get_or}
-use Rattle.std.proofs.lemmas.List.{get_or-drop, drop-drop, take_more, take_all, flat_map_more}
+use Rattle.std.proofs.Math.Seq.{take-suc}
+use Rattle.std.proofs.lemmas.List.{get_or-drop, drop-drop, take_all, flat_map_more}
 use Rattle.std.proofs.lemmas.Bool.{le-leb}
 use Rattle.std.specs.List.{flat_map, AllByRecursion}
 use Rattle.slip.specs.declared.Refusal.{Refusal}
@@ -17,15 +18,10 @@ Rest s p t = (drop p s ≡ t) × (p ≤ length s)
 abbrev pub Back : {A : Type 0} → List ℕ → (ℕ → Parsed A) → List ℕ → A → Type 0
 Back s d bs v = (p : ℕ) (t : List ℕ) → Rest s p (bs ++ t) → (q : ℕ) × (d p ≡ Ok (v, q)) × Rest s q t
 
-pub take_more_at : {A : Type 0} (xs : List A) (k : ℕ) (blank : A) → k < length xs → take (suc k) xs ≡ take k xs ++ get_or xs k blank ∷ []
-take_more_at xs k blank lt =
-    let e : k + 1 ≡ suc k = omega arith in
-    subst (λ (j : ℕ). take j xs ≡ take k xs ++ get_or xs k blank ∷ []) e (take_more xs k blank lt)
-
 -- the bytes of the items, and of one more
 pub joined_more_at : {A : Type 0} (code : A → List ℕ) (xs : List A) (k : ℕ) (blank : A) → k < length xs
     → flat_map code (take k xs) ++ code (get_or xs k blank) ≡ flat_map code (take (suc k) xs)
-joined_more_at code xs k blank lt = flat_map_more code [] (take k xs) (get_or xs k blank) ∙ ap (flat_map code) (sym (take_more_at xs k blank lt))
+joined_more_at code xs k blank lt = flat_map_more code [] (take k xs) (get_or xs k blank) ∙ ap (flat_map code) (sym (take-suc xs k blank lt))
 
 module _ (s : List ℕ) where
   pub back_ok : {A : Type 0} (v : A) → Back s (λ p. Ok (v, p)) [] v
@@ -81,7 +77,7 @@ module _ (s : List ℕ) where
       refl (length xs)
       (λ k lt. each (get_or xs k blank) (All-get_or P xs k blank lt fit))
       (λ k lt. joined_more_at code xs k blank lt)
-      (λ k lt. sym (take_more_at xs k blank lt)))
+      (λ k lt. sym (take-suc xs k blank lt)))
 
   at_drop : (p b : ℕ) (t : List ℕ) → drop p s ≡ b ∷ t → (p + 1 ≤ length s) × (get_or s p 0 ≡ b) × (drop (p + 1) s ≡ t)
   at_drop p b t h =

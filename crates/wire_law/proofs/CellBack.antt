@@ -6,6 +6,7 @@ use lib.Count.{ones, ones-ones}
 use Rattle.std.proofs.lemmas.Bool.Decides.{nat_tests}
 use Rattle.std.proofs.lemmas.Nat.{pow_pos, shr-shr, and_mask}
 use Rattle.std.proofs.ByRecursion.{All-get_or}
+use Rattle.std.proofs.Math.Seq.{take-suc}
 use Rattle.std.proofs.lemmas.List.{take_all, take-append-drop, set_at, length-take-le}
 use Rattle.std.proofs.lemmas.Bool.{le-leb, ne_eqb, eq-eqb, lt-ltb, and_from}
 use Rattle.std.specs.List.{flat_map}
@@ -21,7 +22,7 @@ use Rattle.wire.specs.CellFormat.{bit, letter_of, or_refuse, letter_at, no_event
 use Rattle.wire.proofs.Cells.{cell_is}
 use Rattle.wire_law.specs.Codes.{word_code, letter_code, event_code, exits_code, end_bits, end_code, clock_bits, ends_code, standing, clocks_bits, map_bits, cell_code}
 use Rattle.wire_law.specs.Laws.{EndFits, EndsFit, CellFits}
-use Rattle.wire_law.proofs.Back.{Back, back_ok, back_then, back_kept, back_same, many_back, take_more_at, joined_more_at, back_byte, back_word}
+use Rattle.wire_law.proofs.Back.{Back, back_ok, back_then, back_kept, back_same, many_back, joined_more_at, back_byte, back_word}
 
 letter_of_is : (l : Letter) → letter_of (letter_code l) ≡ Some l
 letter_of_is Barrier = refl
@@ -189,7 +190,7 @@ module _ (s : List ℕ) where
       let left : n - k ≡ suc (n - suc k) = omega arith in
       ap (λ (j : ℕ). set (take k xs ++ replicate j blank) k (get_or xs k blank)) left
       ∙ (set_at (take k xs) blank rest (get_or xs k blank) k (length-take-le k xs (omega arith))
-      ∙ (sym (append_assoc (take k xs) (get_or xs k blank ∷ []) rest) ∙ ap (λ (l : List _). l ++ rest) (sym (take_more_at xs k blank (omega arith)))))))
+      ∙ (sym (append_assoc (take k xs) (get_or xs k blank ∷ []) rest) ∙ ap (λ (l : List _). l ++ rest) (sym (take-suc xs k blank (omega arith)))))))
 
   back_map : (c : Cell) → CellFits c → Back s (map_at s) (word_code (map_bits c)) (map_bits c)
   back_map c fit = back_kept s (word_at s) map_ok BadBits (λ m. m) (word_code (map_bits c)) (map_bits c) (map_ok_is c fit) (back_word s (map_bits c))

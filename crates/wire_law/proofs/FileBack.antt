@@ -1,5 +1,6 @@
 -- A file read back.
 use Rattle.std.proofs.Common.{◌≡◌, ℕ, zero, suc, ◌-◌, ◌<◌, ◌≤◌, Bool, cond, ◌&&◌, leb, List, [], ◌∷◌, ◌++◌, length, get_or, take, Some, None, Ok, Err, sym, refl, ap, ◌∙◌, subst, inl, inr, append-nil, arith, lit≤, length-append, length-drop}
+use Rattle.std.proofs.Math.Seq.{take-suc}
 use Rattle.std.proofs.lemmas.List.{take_all}
 use Rattle.std.proofs.lemmas.Bool.{le-leb, lt-ltb, le-ltb, eq-eqb, cases_eq}
 use Rattle.std.proofs.lemmas.Bool.Decides.{nat_tests}
@@ -12,9 +13,10 @@ use Rattle.wire.specs.Reading.{Parsed, ◌⨟◌, slip, byte_at, word_at, long_a
 use Rattle.wire.specs.CellFormat.{cell_at}
 use Rattle.wire.specs.StepFormat.{step_at, next_at}
 use Rattle.wire.specs.Files.{value, sized, cells_at, model_at, added, steps_at, trail_at}
+use Rattle.wire.proofs.Steps.{idle}
 use Rattle.wire_law.specs.Codes.{word_code, long_code, cell_code, model_code, step_code, trail_code}
 use Rattle.wire_law.specs.Laws.{CellFits, ModelRead, TrailRead}
-use Rattle.wire_law.proofs.Back.{Rest, Back, back_ok, back_from, back_then, back_kept, back_same, many_back, list_back, take_more_at, joined_more_at, back_byte, back_word, back_long}
+use Rattle.wire_law.proofs.Back.{Rest, Back, back_ok, back_from, back_then, back_kept, back_same, many_back, list_back, joined_more_at, back_byte, back_word, back_long}
 use Rattle.wire_law.proofs.CellBack.{back_cell}
 use Rattle.wire_law.proofs.FileSpelling.{step_long, next_code}
 use Rattle.wire_law.proofs.Sizes.{model_short, trail_bytes}
@@ -72,18 +74,6 @@ module _ (s : List ℕ) where
         x.2,
       )
 
-  -- behind the last step no further turn finds one
-  idle : (steps : List Step) (p q m n : ℕ) → n ≤ m → length s ≤ q → steps_at n s p ≡ Ok (steps, q) → steps_at m s p ≡ Ok (steps, q)
-  unfolding steps_at many
-  idle steps p q zero n le end e = let z : n ≡ 0 = omega arith in subst (λ (k : ℕ). steps_at k s p ≡ Ok (steps, q)) z e
-  idle steps p q (suc m) n le end e =
-      elim (cases_eq n (suc m)) [
-        | inl same ↦ subst (λ (k : ℕ). steps_at k s p ≡ Ok (steps, q)) same e
-        | inr less ↦
-            ap (λ (d : Parsed (List Step)). d ⨟ λ xs q. next_at s q ⨟ λ x r. Ok (added xs x, r)) (idle steps p q m n (omega arith) end e)
-            ∙ ap (λ (b : Bool). cond b (step_at s q ⨟ λ t q. Ok (Some t, q)) (Ok (None, q)) ⨟ λ x r. Ok (added steps x, r)) (le-ltb q (length s) end)
-      ]
-
   back_steps : (steps : List Step) → Back s (steps_at (length steps) s) (flat_map step_code steps) steps
   unfolding steps_at
   back_steps steps =
@@ -93,9 +83,10 @@ module _ (s : List ℕ) where
       refl (length steps)
       (λ k lt. back_next (get_or steps k (Finish 0)))
       (λ k lt. joined_more_at step_code steps k (Finish 0) lt)
-      (λ k lt. sym (take_more_at steps k (Finish 0) lt)))
+      (λ k lt. sym (take-suc steps k (Finish 0) lt)))
 
   back_trail : (scale : ℕ) (steps : List Step) → Rest s 0 (trail_code scale steps) → (q : ℕ) × (trail_at s ≡ Ok ((scale, steps), q))
+  unfolding steps_at
   back_trail scale steps start =
       let x = back_word s scale 0 (flat_map step_code steps) start in
       let y = back_steps steps x.0 [] (subst (λ (l : List ℕ). Rest s x.0 l) (sym (append-nil (flat_map step_code steps))) x.2) in
@@ -104,7 +95,7 @@ module _ (s : List ℕ) where
       let last : length s ≤ y.0 = omega (arith, ended s y.0 y.2) in (
         y.0,
         ap (λ (d : Parsed ℕ). d ⨟ λ scale p. steps_at (length s - p) s p ⨟ λ steps q. Ok ((scale, steps), q)) x.1
-            ∙ ap (λ (d : Parsed (List Step)). d ⨟ λ steps q. Ok ((scale, steps), q)) (idle steps x.0 y.0 (length s - x.0) (length steps) enough last y.1),
+            ∙ ap (λ (d : Parsed (List Step)). d ⨟ λ steps q. Ok ((scale, steps), q)) (idle s x.0 (length steps) (length s - x.0) y.0 steps enough last y.1),
       )
 
 pub model_read : ModelRead

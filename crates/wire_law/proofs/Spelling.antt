@@ -3,7 +3,8 @@ use Rattle.std.proofs.Common.{◌≡◌, ℕ, zero, suc, ◌+◌, ◌*◌, ◌/�
 use lib.ListN.{length-replicate}
 use Rattle.std.specs.List.{flat_map, AllByRecursion}
 use Rattle.std.proofs.ByRecursion.{All-get_or, All-push}
-use Rattle.std.proofs.lemmas.List.{drop_more, take_more_set, flat_map_more, length_push, get_or-set_same, get_or-set_other}
+use Rattle.std.proofs.Math.Seq.{take-suc-set}
+use Rattle.std.proofs.lemmas.List.{drop_more, flat_map_more, length_push, get_or-set_same, get_or-set_other}
 use Rattle.std.proofs.lemmas.Bool.{leb-true, cases_eq}
 use Rattle.slip.specs.declared.Refusal.{Refusal}
 use Rattle.wire.specs.Reading.{Parsed, ◌⨟◌, kept, byte_at, word_at, long_at, many}
@@ -60,10 +61,8 @@ set_row {A} s d code P each blank n m le p xs q e =
     (λ k ys t r x lt inv h.
     let got = each k t r x h in
     let in' : k < length ys = omega (arith, inv.1) in
-    let su : k + 1 ≡ suc k = omega arith in
-    let more = take_more_set ys k x in' in
-    let more' = subst (λ (j : ℕ). take j (set ys k x) ≡ take k ys ++ x ∷ []) su more in (
-      subst (λ (l : List ℕ). Spells s p r l) (flat_map_more code [] (take k ys) x ∙ ap (flat_map code) (sym more'))
+    let more = take-suc-set ys k x in' in (
+      subst (λ (l : List ℕ). Spells s p r l) (flat_map_more code [] (take k ys) x ∙ ap (flat_map code) (sym more))
           (join s p t r (flat_map code (take k ys)) (code x) inv.0 got.0),
       length-set ys k x ∙ inv.1,
       λ i lt.

@@ -1,28 +1,12 @@
 use clocks::Sign;
-use std::alloc::{AllocError, Global};
+use std::alloc::AllocError;
 use std::test::Fail;
 use wire::fault::Fault;
 use wire::files::{cover_file, model_file, trail_file};
 
 // The number and the place of the refusal, or two zeros where there is none.
-fn model_slip(heap: Global, bytes: &[u8]) -> Result<(u8, usize), AllocError> {
-    match model_file(heap, bytes) {
-        Ok(_) => Ok((0, 0)),
-        Err(Fault::Refused(slip)) => Ok((slip.refusal.number(), slip.place)),
-        Err(Fault::Memory) => Err(AllocError),
-    }
-}
-
-fn trail_slip(heap: Global, bytes: &[u8]) -> Result<(u8, usize), AllocError> {
-    match trail_file(heap, bytes) {
-        Ok(_) => Ok((0, 0)),
-        Err(Fault::Refused(slip)) => Ok((slip.refusal.number(), slip.place)),
-        Err(Fault::Memory) => Err(AllocError),
-    }
-}
-
-fn cover_slip(heap: Global, bytes: &[u8]) -> Result<(u8, usize), AllocError> {
-    match cover_file(heap, bytes) {
+fn slip_of<T: Drop>(read: Result<T, Fault>) -> Result<(u8, usize), AllocError> {
+    match read {
         Ok(_) => Ok((0, 0)),
         Err(Fault::Refused(slip)) => Ok((slip.refusal.number(), slip.place)),
         Err(Fault::Memory) => Err(AllocError),
@@ -32,28 +16,31 @@ fn cover_slip(heap: Global, bytes: &[u8]) -> Result<(u8, usize), AllocError> {
 #[test]
 fn fields_cut_off(rt: HostRuntime) -> Result<(), Fail> {
     let heap = rt.alloc();
-    assert_eq!(rt; model_slip(heap, &[])?, (1, 0));
-    assert_eq!(rt; model_slip(heap, &[0, 1, 0])?, (1, 2));
+    assert_eq!(rt; slip_of(model_file(heap, &[]))?, (1, 0));
+    assert_eq!(rt; slip_of(model_file(heap, &[0, 1, 0]))?, (1, 2));
     assert_eq!(rt;
-        model_slip(heap, &[0, 1, 0, 0, 0, 1, b'B', 0, 0, 9])?,
+        slip_of(model_file(heap, &[0, 1, 0, 0, 0, 1, b'B', 0, 0, 9]))?,
         (1, 9)
     );
-    assert_eq!(rt; trail_slip(heap, &[0])?, (1, 0));
-    assert_eq!(rt; trail_slip(heap, &[0, 4, b'w', 0, 0, 0])?, (1, 3));
-    assert_eq!(rt; cover_slip(heap, &[0, 1, 0, 0])?, (1, 4));
-    assert_eq!(rt; cover_slip(heap, &[0, 1, 0, 0, 1, 1, 0, 255])?, (1, 7));
+    assert_eq!(rt; slip_of(trail_file(heap, &[0]))?, (1, 0));
+    assert_eq!(rt; slip_of(trail_file(heap, &[0, 4, b'w', 0, 0, 0]))?, (1, 3));
+    assert_eq!(rt; slip_of(cover_file(heap, &[0, 1, 0, 0]))?, (1, 4));
+    assert_eq!(rt;
+        slip_of(cover_file(heap, &[0, 1, 0, 0, 1, 1, 0, 255]))?,
+        (1, 7)
+    );
     Ok(())
 }
 
 #[test]
 fn counts(rt: HostRuntime) -> Result<(), Fail> {
     let heap = rt.alloc();
-    assert_eq!(rt; model_slip(heap, &[0, 0, 0, 0])?, (2, 0));
-    assert_eq!(rt; model_slip(heap, &[0, 201, 0, 0])?, (2, 0));
-    assert_eq!(rt; model_slip(heap, &[0, 200, 0, 0])?, (1, 4));
-    assert_eq!(rt; cover_slip(heap, &[0, 0])?, (0, 0));
-    assert_eq!(rt; cover_slip(heap, &[1, 0])?, (1, 2));
-    assert_eq!(rt; cover_slip(heap, &[1, 1])?, (2, 0));
+    assert_eq!(rt; slip_of(model_file(heap, &[0, 0, 0, 0]))?, (2, 0));
+    assert_eq!(rt; slip_of(model_file(heap, &[0, 201, 0, 0]))?, (2, 0));
+    assert_eq!(rt; slip_of(model_file(heap, &[0, 200, 0, 0]))?, (1, 4));
+    assert_eq!(rt; slip_of(cover_file(heap, &[0, 0]))?, (0, 0));
+    assert_eq!(rt; slip_of(cover_file(heap, &[1, 0]))?, (1, 2));
+    assert_eq!(rt; slip_of(cover_file(heap, &[1, 1]))?, (2, 0));
     Ok(())
 }
 
@@ -61,23 +48,27 @@ fn counts(rt: HostRuntime) -> Result<(), Fail> {
 fn bits(rt: HostRuntime) -> Result<(), Fail> {
     let heap = rt.alloc();
     assert_eq!(rt;
-        model_slip(heap, &[0, 1, 0, 0, 0, 5])?,
+        slip_of(model_file(heap, &[0, 1, 0, 0, 0, 5]))?,
         (3, 4),
         "a hole among the events"
     );
-    assert_eq!(rt; model_slip(heap, &[0, 1, 0, 0, 16, 0])?, (3, 4), "bit 12");
     assert_eq!(rt;
-        model_slip(heap, &[0, 1, 0, 0, 0, 64, 0])?,
+        slip_of(model_file(heap, &[0, 1, 0, 0, 16, 0]))?,
+        (3, 4),
+        "bit 12"
+    );
+    assert_eq!(rt;
+        slip_of(model_file(heap, &[0, 1, 0, 0, 0, 64, 0]))?,
         (3, 6),
         "no end"
     );
     assert_eq!(rt;
-        model_slip(heap, &[0, 1, 0, 0, 0, 64, 6])?,
+        slip_of(model_file(heap, &[0, 1, 0, 0, 0, 64, 6]))?,
         (3, 6),
         "open without its end"
     );
     assert_eq!(rt;
-        model_slip(heap, &[0, 1, 0, 0, 0, 64, 17])?,
+        slip_of(model_file(heap, &[0, 1, 0, 0, 0, 64, 17]))?,
         (3, 6),
         "bit 4 of a clock's byte"
     );
@@ -87,37 +78,40 @@ fn bits(rt: HostRuntime) -> Result<(), Fail> {
 #[test]
 fn ranges(rt: HostRuntime) -> Result<(), Fail> {
     let heap = rt.alloc();
-    assert_eq!(rt; model_slip(heap, &[0, 1, 0, 0, 0, 1, b'X'])?, (4, 6));
-    assert_eq!(rt; model_slip(heap, &[0, 1, 0, 0, 0, 32, 0])?, (4, 6));
-    assert_eq!(rt; model_slip(heap, &[0, 1, 0, 0, 0, 32, 64])?, (4, 6));
     assert_eq!(rt;
-        model_slip(heap, &[0, 1, 0, 0, 0, 64, 1, 39, 16])?,
+        slip_of(model_file(heap, &[0, 1, 0, 0, 0, 1, b'X']))?,
+        (4, 6)
+    );
+    assert_eq!(rt; slip_of(model_file(heap, &[0, 1, 0, 0, 0, 32, 0]))?, (4, 6));
+    assert_eq!(rt;
+        slip_of(model_file(heap, &[0, 1, 0, 0, 0, 32, 64]))?,
+        (4, 6)
+    );
+    assert_eq!(rt;
+        slip_of(model_file(heap, &[0, 1, 0, 0, 0, 64, 1, 39, 16]))?,
         (4, 7),
         "10,000"
     );
     assert_eq!(rt;
-        model_slip(heap, &[0, 1, 0, 0, 0, 64, 1, 39, 15])?,
+        slip_of(model_file(heap, &[0, 1, 0, 0, 0, 64, 1, 39, 15]))?,
         (0, 0),
         "9,999"
     );
-    assert_eq!(rt; trail_slip(heap, &[0, 4, b'f', 1, b'x'])?, (4, 4));
+    assert_eq!(rt; slip_of(trail_file(heap, &[0, 4, b'f', 1, b'x']))?, (4, 4));
     Ok(())
 }
 
 #[test]
 fn surplus(rt: HostRuntime) -> Result<(), Fail> {
     let heap = rt.alloc();
-    assert_eq!(rt; model_slip(heap, &[0, 1, 0, 0, 0, 0, 7])?, (5, 6));
-    assert_eq!(rt; cover_slip(heap, &[0, 1, 0, 0, 0, 7])?, (5, 5));
-    let mut zeros = Vec::new(heap);
-    for _k in 0..60000u16 {
-        zeros.push(0u8)?;
-    }
-    assert_eq!(rt; model_slip(heap, &zeros)?, (2, 0), "60,000 bytes");
+    assert_eq!(rt; slip_of(model_file(heap, &[0, 1, 0, 0, 0, 0, 7]))?, (5, 6));
+    assert_eq!(rt; slip_of(cover_file(heap, &[0, 1, 0, 0, 0, 7]))?, (5, 5));
+    let mut zeros = vec![in heap; 0; 60000]?;
+    assert_eq!(rt; slip_of(model_file(heap, &zeros))?, (2, 0), "60,000 bytes");
     zeros.push(0)?;
-    assert_eq!(rt; model_slip(heap, &zeros)?, (5, 60000));
-    assert_eq!(rt; trail_slip(heap, &zeros)?, (5, 60000));
-    assert_eq!(rt; cover_slip(heap, &zeros)?, (5, 60000));
+    assert_eq!(rt; slip_of(model_file(heap, &zeros))?, (5, 60000));
+    assert_eq!(rt; slip_of(trail_file(heap, &zeros))?, (5, 60000));
+    assert_eq!(rt; slip_of(cover_file(heap, &zeros))?, (5, 60000));
     Ok(())
 }
 
@@ -163,6 +157,6 @@ fn accepted_cover(rt: HostRuntime) -> Result<(), Fail> {
     assert!(rt; c.entries[1].gaps.len() == 1);
     let gap = c.entries[1].gaps[0];
     assert_eq!(rt; (gap.first, gap.second, gap.constant), (1, 0, 1));
-    assert!(rt; matches!(gap.sign, Sign::AtMost));
+    assert_eq!(rt; gap.sign, Sign::AtMost);
     Ok(())
 }

@@ -1,2 +1,3 @@
 pub mod StepFormat
 pub mod Trails
+pub mod Words

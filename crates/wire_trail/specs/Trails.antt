@@ -14,9 +14,13 @@ added steps None = steps
 unfoldable pub steps_at : ℕ → List ℕ → ℕ → Parsed (List Step)
 steps_at n s p = many (λ steps _ step. added steps step) (λ _. next_at) [] n s p
 
--- scale and steps, of which there are no more than bytes
+-- the steps up to the end, of which there are no more than bytes
+abbrev pub all_steps_at : List ℕ → ℕ → Parsed (List Step)
+all_steps_at s p = steps_at (length s - p) s p
+
+-- scale and steps
 abbrev pub trail_at : List ℕ → Parsed (ℕ × List Step)
-trail_at s = word_at s 0 ⨟ λ scale p. steps_at (length s - p) s p ⨟ λ steps q. Ok ((scale, steps), q)
+trail_at s = word_at s 0 ⨟ λ scale p. all_steps_at s p ⨟ λ steps q. Ok ((scale, steps), q)
 
 abbrev pub trail_file : List ℕ → Result (ℕ × List Step) Slip
 trail_file s = sized s (trail_at s)
