@@ -1,5 +1,5 @@
 -- The steps of a loop that tests all numbers below a bound.
-use Rattle.std.proofs.Common.{◌≡◌, ℕ, zero, suc, ◌+◌, ◌<◌, ◌≤◌, Bool, true, false, cond, ◌&&◌, Some, None, Option, sym, refl, subst, inl, inr, add-one, arith}
+use Rattle.std.proofs.Common.{◌≡◌, ℕ, zero, suc, ◌+◌, ◌<◌, Bool, true, false, cond, ◌&&◌, Some, None, Option, refl, inl, inr, add-one, arith}
 use Rattle.std.proofs.lemmas.Bool.{and_from, and_parts, and_left, and_right, cases_order}
 use Rattle.model.specs.Below.{all_below, first_bad, or_else}
 
@@ -37,13 +37,6 @@ bad_stop zero k f lt h e = absurd (omega arith)
 bad_stop (suc n) k f lt h e =
     elim (cases_order k n) [ inl eq ↦ rw (← eq, h, e) | inr (inl less) ↦ rw (bad_stop n k f less h e) | inr (inr more) ↦ absurd (omega arith) ]
 
--- nothing fails from n on
-pub bad_rest : (n m : ℕ) (f : ℕ → Bool) → first_bad n f ≡ None → ((k : ℕ) → n ≤ k → f k ≡ true) → n ≤ m → first_bad m f ≡ None
-unfolding first_bad
-bad_rest n zero f h past le = refl
-bad_rest n (suc m) f h past le =
-    elim (cases_order n (suc m)) [ inl eq ↦ subst (λ x. first_bad x f ≡ None) eq h | inr (inl less) ↦ rw (bad_rest n m f h past (omega arith), past m (omega arith)) | inr (inr more) ↦ absurd (omega arith) ]
-
 pub all_from_none : (n : ℕ) (f : ℕ → Bool) → first_bad n f ≡ None → all_below n f ≡ true
 unfolding all_below first_bad
 all_from_none zero f h = refl
@@ -51,17 +44,15 @@ all_from_none (suc n) f h = parts (first_bad n f) (f n) (all_from_none n f) h
   where
     parts : (o : Option ℕ) (b : Bool) → (o ≡ None → all_below n f ≡ true) → or_else o (cond b None (Some n)) ≡ None → (all_below n f && b) ≡ true
     parts None true below e = and_from (all_below n f) true (below refl) refl
-    parts None false below e = absurd (let z : ◌≡◌ {A = ℕ} 0 1 = cc in omega arith)
-    parts (Some i) b below e = absurd (let z : ◌≡◌ {A = ℕ} 0 1 = cc in omega arith)
-
--- the two ends of a loop whose bound m is the n of the definition
-pub all_stop_at : (n m k : ℕ) (f : ℕ → Bool) → m ≡ n → k < m → f k ≡ false → false ≡ all_below n f
-all_stop_at n m k f is lt e = sym (all_stop n k f (rw (← is) lt) e)
-
-pub all_done_at : (n m k : ℕ) (f : ℕ → Bool) → m ≡ n → m ≤ k → k ≤ m → all_below k f ≡ true → true ≡ all_below n f
-all_done_at n m k f is low high h = let e : k ≡ n = omega arith in rw (← e) (sym h)
+    parts None false below e = cc
+    parts (Some i) b below e = cc
 
 pub all_every : (n : ℕ) (f : ℕ → Bool) → ((k : ℕ) → k < n → f k ≡ true) → all_below n f ≡ true
 unfolding all_below
 all_every zero f h = refl
 all_every (suc n) f h = and_from (all_below n f) (f n) (all_every n f (λ k lt. h k (omega arith))) (h n (omega arith))
+
+pub all_same : (n : ℕ) (f g : ℕ → Bool) → ((k : ℕ) → k < n → f k ≡ g k) → all_below n f ≡ all_below n g
+unfolding all_below
+all_same zero f g h = refl
+all_same (suc n) f g h = rw (all_same n f g (λ k lt. h k (omega arith)), h n (omega arith))

@@ -1,4 +1,5 @@
 pub mod Below
+pub mod Ranges
 pub mod Capped
 pub mod Counts
 pub mod Kept

@@ -20,9 +20,8 @@ unfolding capped
 table_more start now next so_far more h e = capped_more 16 (taken start) so_far more (taken now) (taken next) h e
 
 -- wait, then two more parts
-pub table_whole : (none one two three : Moves) (fs ss : List Move) → taken none ≡ [] → taken one ≡ capped (taken none ++ Wait ∷ []) → taken two ≡ capped (taken one ++ fs) → taken three ≡ capped (taken two ++ ss) → taken three ≡ capped (Wait ∷ (fs ++ ss))
+pub table_whole : (one two three : Moves) (fs ss : List Move) → taken one ≡ Wait ∷ [] → taken two ≡ capped (taken one ++ fs) → taken three ≡ capped (taken two ++ ss) → taken three ≡ capped (Wait ∷ (fs ++ ss))
 unfolding capped
-table_whole none one two three fs ss e₀ e₁ e₂ e₃ =
-    let one-is : taken one ≡ Wait ∷ [] = e₁ ∙ ap (λ (l : List Move). take 16 (l ++ Wait ∷ [])) e₀ in
-    let two_is : taken two ≡ take 16 (Wait ∷ fs) = e₂ ∙ ap (λ (l : List Move). take 16 (l ++ fs)) one-is in
+table_whole one two three fs ss e₁ e₂ e₃ =
+    let two_is : taken two ≡ take 16 (Wait ∷ fs) = e₂ ∙ ap (λ (l : List Move). take 16 (l ++ fs)) e₁ in
     e₃ ∙ ap (λ (l : List Move). take 16 (l ++ ss)) two_is ∙ capped_join 16 (Wait ∷ fs) ss

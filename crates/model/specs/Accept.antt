@@ -1,5 +1,5 @@
 -- What accepting a model's cells comes to: the first broken rule with its cell, or the cells.
-use Rattle.std.specs.Prelude.{ℕ, cond, List, length, Some, None, Option, nat_lt}
+use Rattle.std.specs.Prelude.{ℕ, cond, List, length, Some, None, Ok, Err, Option, Result, nat_lt}
 use Rattle.slip.specs.declared.Refusal.{Refusal}
 use Rattle.slip.specs.declared.Refusal.TheVariants.{NoSuchCell, WrongLetters, BrokenIdentity, BusyCell, TooManySteps}
 use Rattle.slip.specs.declared.Slip.{Slip}
@@ -26,3 +26,8 @@ rule_fault first cells =
 
 abbrev pub model_fault : ℕ → List Cell → Option Slip
 model_fault first cells = or_else (link_fault first cells) (rule_fault first cells)
+
+-- the answer of a test that turns away with the slip, if there is one
+abbrev pub unless : Option Slip → Result (Unit {0}) Slip
+unless None = Ok tt
+unless (Some e) = Err e

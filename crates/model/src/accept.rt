@@ -1,81 +1,62 @@
 // Accepting a model: each rule over all cells upwards before the next.
-ghost use Rattle.std.specs.Prelude.{◌≡◌, ◌≤◌, length};
-ghost use Rattle.model.specs.Accept.{link_fault, rule_fault};
-ghost use Rattle.model.specs.Rules.{every_cell, faces_in};
+ghost use Rattle.std.specs.Prelude.{◌≡◌};
+ghost use Rattle.model.specs.Accept.{broken_by, link_fault, rule_fault, unless};
+ghost use Rattle.model.specs.Below.{first_bad};
 ghost use Rattle.model.specs.Whole.{Accepts};
 
 use crate::accepted::Model;
-use crate::faces::Faces;
+use crate::faces::{Faces, Linked};
 use crate::few::Few;
 use crate::identity::Identity;
-use crate::letters::Letters;
+use crate::letters::{Lettered, Letters};
 use crate::quiet::Quiet;
-use crate::rule::lowest;
+use crate::rule::{Rule, lowest};
 use slip::{Refusal, Slip};
 use wire::cell::Cell;
 use wire::model::ModelFile;
 
-fn link_fault(first: usize, cells: &[Cell]) -> Option<Slip>
-    ensures { result ≡ link_fault first cells.now }
+// Turns away cells that break the rule, with the lowest that does.
+fn check<R: Rule>(rule: &R, refusal: Refusal) -> Result<(), Slip>
+    ensures { result ≡ unless (broken_by refusal (first_bad (R.count rule.now) (R.test rule.now))) }
+{
+    match lowest(rule) {
+        Some(place) => Err(refusal.at(place)),
+        None => Ok(()),
+    }
+}
+
+fn check_links(first: usize, cells: &[Cell]) -> Result<(), Slip>
+    ensures { result ≡ unless (link_fault first cells.now) }
 {
     if first >= cells.len() {
-        return Some(Slip {
-            refusal: Refusal::NoSuchCell,
-            place: first,
-        });
+        return Err(Refusal::NoSuchCell.at(first));
     }
-    match lowest(&Faces, cells) {
-        Some(place) => Some(Slip {
-            refusal: Refusal::NoSuchCell,
-            place,
-        }),
-        None => None,
-    }
+    check(&Faces(cells), Refusal::NoSuchCell)
 }
 
-fn rule_fault(first: usize, cells: &[Cell]) -> Option<Slip>
-    requires small { length cells.now ≤ 200 }
-    requires linked { every_cell faces_in cells.now }
-    ensures { result ≡ rule_fault first cells.now }
+fn check_rules(first: usize, linked: &Linked) -> Result<(), Slip>
+    ensures { result ≡ unless (rule_fault first linked.now.cells.now) }
 {
-    if let Some(place) = lowest(&Letters, cells) {
-        return Some(Slip {
-            refusal: Refusal::WrongLetters,
-            place,
-        });
-    }
-    if let Some(place) = lowest(&Identity, cells) {
-        return Some(Slip {
-            refusal: Refusal::BrokenIdentity,
-            place,
-        });
-    }
-    if let Some(place) = lowest(&Quiet { first }, cells) {
-        return Some(Slip {
-            refusal: Refusal::BusyCell,
-            place,
-        });
-    }
-    if let Some(place) = lowest(&Few, cells) {
-        return Some(Slip {
-            refusal: Refusal::TooManySteps,
-            place,
-        });
-    }
-    None
+    let linked = *linked;
+    check(&Letters(linked), Refusal::WrongLetters)?;
+    let lettered = Lettered { linked };
+    check(&Identity(lettered), Refusal::BrokenIdentity)?;
+    let cells = linked.cells;
+    check(&Quiet { first, cells }, Refusal::BusyCell)?;
+    check(&Few(linked), Refusal::TooManySteps)
 }
 
-// The model, or the first broken rule with its cell.
-pub fn accept(file: ModelFile) -> Result<Model, Slip>
-    ensures { Accepts file.first file.cells result }
-{
-    let ModelFile { first, cells } = file;
-    let first = first as usize;
-    if let Some(slip) = link_fault(first, &cells) {
-        return Err(slip);
+// The model of a file, or the first broken rule with its cell.
+impl TryFrom<ModelFile> for Model {
+    type Error = Slip;
+
+    ghost try_from_gives = { λ file. Accepts file.first file.cells };
+
+    fn try_from(file: ModelFile) -> Result<Model, Slip> {
+        let ModelFile { first, cells } = file;
+        let first = first as usize;
+        check_links(first, &cells)?;
+        check_rules(first, &Linked { cells: &cells })?;
+        Ok(Model { cells, first })
     }
-    if let Some(slip) = rule_fault(first, &cells) {
-        return Err(slip);
-    }
-    Ok(Model { cells, first })
 }

@@ -1,59 +1,50 @@
 // At most sixteen steps leave a cell.
-ghost use Rattle.std.specs.Prelude.{◌≡◌, ◌+◌, ◌*◌, ◌<◌, ◌≤◌, length};
+ghost use Rattle.std.specs.Prelude.{◌≡◌, ◌<◌, ◌≤◌, length};
 ghost use Rattle.model.specs.Cells.{cell_at};
-ghost use Rattle.model.specs.Outgoing.{start_at, starts_into, starts_below, moves_out};
+ghost use Rattle.model.specs.Outgoing.{starts_into, starts_below};
 ghost use Rattle.model.specs.Rules.{few_ok};
 
-use crate::faces::{cell_at, event_at};
+use crate::faces::{Linked, cell_at, events_of};
 use crate::rule::Rule;
 use wire::cell::Cell;
 
-// One if cell c is the lower face of event k of cell d, else none.
-fn count_start(cells: &[Cell], c: usize, d: usize, k: usize) -> usize
-    requires here { d < length cells.now }
-    requires event { k < (cell_at cells.now d).dim }
-    ensures { result ≡ length (start_at cells.now c d k) }
-{
-    if event_at(cell_at(cells, d), k).lower as usize == c {
-        1
-    } else {
-        0
-    }
-}
-
+// How many events of cell d have cell c as their lower face.
 fn count_starts_into(cells: &[Cell], c: usize, d: usize) -> usize
     requires { d < length cells.now }
     ensures is { result ≡ length (starts_into cells.now c d (cell_at cells.now d).dim) }
     ensures most { result ≤ 4 }
 {
-    let mut count = 0;
-    for k in 0..cell_at(cells, d).dim {
-        count += count_start(cells, c, d, k);
-    }
-    count
+    events_of(cell_at(cells, d))
+        .iter()
+        .filter(|event| event.lower as usize == c)
+        .count()
 }
 
-fn count_starts(cells: &[Cell], c: usize) -> usize
-    requires { length cells.now ≤ 200 }
-    ensures is { result ≡ length (starts_below cells.now c (length cells.now)) }
-    ensures most { result ≤ 800 }
-{
-    let mut count = 0;
-    for d in 0..cells.len() {
-        count += count_starts_into(cells, c, d);
+impl Linked<'_> {
+    fn count_starts(&self, c: usize) -> usize
+        ensures is { result ≡ length (starts_below self.now.cells.now c (length self.now.cells.now)) }
+        ensures most { result ≤ 800 }
+    {
+        let cells = self.cells;
+        (0..cells.len())
+            .map(|d| count_starts_into(cells, c, d))
+            .sum()
     }
-    count
 }
 
 #[derive(Clone, Copy)]
-pub(crate) struct Few;
+pub(crate) struct Few<'a>(pub(crate) Linked<'a>);
 
-impl Rule for Few {
-    ghost needs = { λ _ cells. length cells ≤ 200 };
+impl Rule for Few<'_> {
+    ghost count = { λ r. length r.0.cells.now };
 
-    ghost test = { λ _ cells i. few_ok cells i };
+    ghost test = { λ r i. few_ok r.0.cells.now i };
 
-    fn keeps(&self, cells: &[Cell], i: usize) -> bool {
-        1 + cell_at(cells, i).dim + count_starts(cells, i) <= 16
+    fn count(&self) -> usize {
+        self.0.cells.len()
+    }
+
+    fn keeps(&self, i: usize) -> bool {
+        1 + cell_at(self.0.cells, i).dim + self.0.count_starts(i) <= 16
     }
 }

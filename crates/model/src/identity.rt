@@ -1,78 +1,76 @@
 // The face identity: for k below m, face k of face m is face m - 1 of face k, whichever of the two are lower or upper.
-ghost use Rattle.std.specs.Prelude.{◌≡◌, ◌<◌, true, length};
+ghost use Rattle.std.specs.Prelude.{◌≡◌, ◌<◌, length};
 ghost use Rattle.model.specs.Below.{all_below};
-ghost use Rattle.model.specs.Cells.{cell_at, face};
-ghost use Rattle.model.specs.Rules.{faces_in, every_cell, letters_ok, commutes, commutes_all, identity_ok};
+ghost use Rattle.model.specs.Cells.{cell_at};
+ghost use Rattle.model.specs.Rules.{every_cell, letters_ok, commutes, commutes_all, identity_ok};
 
-use crate::faces::{cell_at, face_at};
+use crate::faces::{EventOf, cell_at};
+use crate::letters::Lettered;
 use crate::rule::Rule;
-use wire::cell::Cell;
 
-fn commute(cells: &[Cell], i: usize, k: usize, m: usize, a: bool, b: bool) -> bool
-    requires here { i < length cells.now }
-    requires below { k < m }
-    requires event { m < (cell_at cells.now i).dim }
-    requires linked { every_cell faces_in cells.now }
-    requires lettered { every_cell letters_ok cells.now }
-    ensures { result ≡ commutes cells.now i k m a b }
-{
-    let outer = face_at(cells, b, i, m);
-    let inner = face_at(cells, a, i, k);
-    face_at(cells, a, outer, k) == face_at(cells, b, inner, m - 1)
+// Event m of a lettered cell, whose faces meet those of each event before it.
+#[derive(Clone, Copy)]
+struct Corner<'a> {
+    event: EventOf<'a>,
+    ghost lettered: { every_cell letters_ok event.linked.cells.now },
 }
 
-fn commute_all(cells: &[Cell], i: usize, m: usize, k: usize) -> bool
-    requires here { i < length cells.now }
-    requires below { k < m }
-    requires event { m < (cell_at cells.now i).dim }
-    requires linked { every_cell faces_in cells.now }
-    requires lettered { every_cell letters_ok cells.now }
-    ensures { result ≡ commutes_all cells.now i m k }
-{
-    commute(cells, i, k, m, false, false)
-        && commute(cells, i, k, m, false, true)
-        && commute(cells, i, k, m, true, false)
-        && commute(cells, i, k, m, true, true)
-}
-
-fn commute_below(cells: &[Cell], i: usize, m: usize) -> bool
-    requires here { i < length cells.now }
-    requires event { m < (cell_at cells.now i).dim }
-    requires linked { every_cell faces_in cells.now }
-    requires lettered { every_cell letters_ok cells.now }
-    ensures { result ≡ all_below m (commutes_all cells.now i m) }
-{
-    for k in 0..m {
-        if !commute_all(cells, i, m, k) {
-            return false;
-        }
+impl<'a> Lettered<'a> {
+    fn corner(&self, i: usize, m: usize) -> Corner<'a>
+        requires here { i < length self.now.linked.cells.now }
+        requires event { m < (cell_at self.now.linked.cells.now i).dim }
+        ensures among { result.event.linked ≡ self.now.linked }
+        ensures of_cell { result.event.i ≡ i }
+        ensures at { result.event.k ≡ m }
+    {
+        let event = self.linked.event(i, m);
+        Corner { event }
     }
-    true
 }
 
-fn identity_holds(cells: &[Cell], i: usize) -> bool
-    requires here { i < length cells.now }
-    requires linked { every_cell faces_in cells.now }
-    requires lettered { every_cell letters_ok cells.now }
-    ensures { result ≡ identity_ok cells.now i }
-{
-    for m in 0..cell_at(cells, i).dim {
-        if !commute_below(cells, i, m) {
-            return false;
-        }
+impl Corner<'_> {
+    // The flags say of the faces k and m whether each is the upper one.
+    fn commutes(&self, k: usize, a: bool, b: bool) -> bool
+        requires { k < self.now.event.k }
+        ensures { result ≡ commutes self.now.event.linked.cells.now self.now.event.i k self.now.event.k a b }
+    {
+        let EventOf { linked, i, k: m } = self.event;
+        let outer = self.event.face(b);
+        let inner = linked.event(i, k).face(a);
+        linked.event(outer, k).face(a) == linked.event(inner, m - 1).face(b)
     }
-    true
+
+    fn commutes_all(&self, k: usize) -> bool
+        requires { k < self.now.event.k }
+        ensures { result ≡ commutes_all self.now.event.linked.cells.now self.now.event.i self.now.event.k k }
+    {
+        self.commutes(k, false, false)
+            && self.commutes(k, false, true)
+            && self.commutes(k, true, false)
+            && self.commutes(k, true, true)
+    }
+
+    fn commutes_below(&self) -> bool
+        ensures { result ≡ all_below self.now.event.k (commutes_all self.now.event.linked.cells.now self.now.event.i self.now.event.k) }
+    {
+        (0..self.event.k).all(|k| self.commutes_all(k))
+    }
 }
 
 #[derive(Clone, Copy)]
-pub(crate) struct Identity;
+pub(crate) struct Identity<'a>(pub(crate) Lettered<'a>);
 
-impl Rule for Identity {
-    ghost needs = { λ _ cells. every_cell faces_in cells × every_cell letters_ok cells };
+impl Rule for Identity<'_> {
+    ghost count = { λ r. length r.0.linked.cells.now };
 
-    ghost test = { λ _ cells i. identity_ok cells i };
+    ghost test = { λ r i. identity_ok r.0.linked.cells.now i };
 
-    fn keeps(&self, cells: &[Cell], i: usize) -> bool {
-        identity_holds(cells, i)
+    fn count(&self) -> usize {
+        self.0.linked.cells.len()
+    }
+
+    fn keeps(&self, i: usize) -> bool {
+        let cells = self.0;
+        (0..cell_at(cells.linked.cells, i).dim).all(|m| cells.corner(i, m).commutes_below())
     }
 }

@@ -1,24 +1,12 @@
 // The letters of faces: face k carries the cell's letters without the k-th.
-ghost use Rattle.std.specs.Prelude.{◌≡◌, ◌+◌, ◌<◌, ◌≤◌, ◌&&◌, length};
+ghost use Rattle.std.specs.Prelude.{◌≡◌, ◌+◌, ◌<◌, ◌≤◌, length};
 ghost use Rattle.model.specs.Below.{all_below};
-ghost use Rattle.model.specs.Cells.{cell_at, event_at, face};
-ghost use Rattle.model.specs.Rules.{faces_in, every_cell, rank, past, lacks, letters_ok, same_at, lacks_both};
+ghost use Rattle.model.specs.Cells.{cell_at};
+ghost use Rattle.model.specs.Rules.{every_cell, past, lacks, letters_ok, same_at, lacks_both};
 
-use crate::faces::{cell_at, event_at, face_at};
+use crate::faces::{EventOf, Linked, cell_at, event_at};
 use crate::rule::Rule;
-use wire::cell::{Cell, Letter};
-
-fn rank_of(letter: Letter) -> u8
-    ensures { result ≡ rank letter }
-{
-    match letter {
-        Letter::Barrier => 0,
-        Letter::Display => 1,
-        Letter::Read => 2,
-        Letter::Write => 3,
-        Letter::Sensor => 4,
-    }
-}
+use wire::cell::Cell;
 
 // The index, in a cell, of event j of its face k.
 fn past_event(k: usize, j: usize) -> usize
@@ -33,21 +21,14 @@ fn same_at(face: &Cell, cell: &Cell, k: usize, j: usize) -> bool
     requires fewer { face.now.dim + 1 ≤ cell.now.dim }
     ensures { result ≡ same_at face.now cell.now k j }
 {
-    let own = event_at(face, j);
-    let other = event_at(cell, past_event(k, j));
-    rank_of(own.letter) == rank_of(other.letter)
+    event_at(face, j).letter == event_at(cell, past_event(k, j)).letter
 }
 
 fn letters_match(face: &Cell, cell: &Cell, k: usize) -> bool
     requires { face.now.dim + 1 ≡ cell.now.dim }
     ensures { result ≡ all_below face.now.dim (same_at face.now cell.now k) }
 {
-    for j in 0..face.dim {
-        if !same_at(face, cell, k, j) {
-            return false;
-        }
-    }
-    true
+    (0..face.dim).all(|j| same_at(face, cell, k, j))
 }
 
 fn cell_lacks(face: &Cell, cell: &Cell, k: usize) -> bool
@@ -56,40 +37,39 @@ fn cell_lacks(face: &Cell, cell: &Cell, k: usize) -> bool
     face.dim + 1 == cell.dim && letters_match(face, cell, k)
 }
 
-fn faces_lack(cells: &[Cell], i: usize, k: usize) -> bool
-    requires here { i < length cells.now }
-    requires event { k < (cell_at cells.now i).dim }
-    requires linked { every_cell faces_in cells.now }
-    ensures { result ≡ lacks_both cells.now i k }
-{
-    let cell = cell_at(cells, i);
-    let lower = cell_at(cells, face_at(cells, false, i, k));
-    let upper = cell_at(cells, face_at(cells, true, i, k));
-    cell_lacks(lower, cell, k) && cell_lacks(upper, cell, k)
-}
-
-fn letters_agree(cells: &[Cell], i: usize) -> bool
-    requires here { i < length cells.now }
-    requires linked { every_cell faces_in cells.now }
-    ensures { result ≡ letters_ok cells.now i }
-{
-    for k in 0..cell_at(cells, i).dim {
-        if !faces_lack(cells, i, k) {
-            return false;
-        }
+impl EventOf<'_> {
+    fn faces_lack(&self) -> bool
+        ensures { result ≡ lacks_both self.now.linked.cells.now self.now.i self.now.k }
+    {
+        let cells = self.linked.cells;
+        let cell = cell_at(cells, self.i);
+        let lower = cell_at(cells, self.face(false));
+        let upper = cell_at(cells, self.face(true));
+        cell_lacks(lower, cell, self.k) && cell_lacks(upper, cell, self.k)
     }
-    true
 }
 
 #[derive(Clone, Copy)]
-pub(crate) struct Letters;
+pub(crate) struct Letters<'a>(pub(crate) Linked<'a>);
 
-impl Rule for Letters {
-    ghost needs = { λ _ cells. every_cell faces_in cells };
+impl Rule for Letters<'_> {
+    ghost count = { λ r. length r.0.cells.now };
 
-    ghost test = { λ _ cells i. letters_ok cells i };
+    ghost test = { λ r i. letters_ok r.0.cells.now i };
 
-    fn keeps(&self, cells: &[Cell], i: usize) -> bool {
-        letters_agree(cells, i)
+    fn count(&self) -> usize {
+        self.0.cells.len()
     }
+
+    fn keeps(&self, i: usize) -> bool {
+        let linked = self.0;
+        (0..cell_at(linked.cells, i).dim).all(|k| linked.event(i, k).faces_lack())
+    }
+}
+
+// Linked cells whose faces carry the letters that they should.
+#[derive(Clone, Copy)]
+pub(crate) struct Lettered<'a> {
+    pub(crate) linked: Linked<'a>,
+    ghost lettered: { every_cell letters_ok linked.cells.now },
 }

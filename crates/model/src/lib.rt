@@ -1,6 +1,6 @@
 #![tactic(auto)]
 
-pub mod accept;
+mod accept;
 pub mod accepted;
 mod faces;
 mod few;

@@ -7,8 +7,7 @@ ghost use Rattle.model.specs.Taken.{taken};
 ghost use Rattle.model.specs.Whole.{plan_of};
 
 use crate::accepted::Model;
-use crate::faces::cell_at;
-use crate::moves::moves_out;
+use crate::faces::Linked;
 use crate::outgoing::Moves;
 use wire::cell::{Cell, Ends, Event, Letter};
 
@@ -21,16 +20,12 @@ fn blank_cell() -> Cell
         lower: 0,
         upper: 0,
     };
-    let ends = Ends {
-        low: None,
-        high: None,
-    };
     Cell {
         events: [event; 4],
         dim: 0,
         last: false,
         exits: 0,
-        ends: [ends; 6],
+        ends: [Ends::default(); 6],
     }
 }
 
@@ -39,11 +34,7 @@ impl Model {
     pub fn cell(&self, i: usize) -> Cell
         ensures { result ≡ cell_at (plan_of self.now).cells i }
     {
-        if i < self.cells.len() {
-            *cell_at(&self.cells, i)
-        } else {
-            blank_cell()
-        }
+        self.cells.get(i).copied().unwrap_or_else(blank_cell)
     }
 
     // The steps out of a cell, in the order of their numbers, if there is such a cell.
@@ -51,7 +42,8 @@ impl Model {
         ensures { option_map taken result ≡ (if nat_lt i (length (plan_of self.now).cells) then Some (moves_out (plan_of self.now).cells i) else None) }
     {
         if i < self.cells.len() {
-            Some(moves_out(&self.cells, i))
+            let linked = Linked { cells: &self.cells };
+            Some(linked.moves_out(i))
         } else {
             None
         }

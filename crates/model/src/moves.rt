@@ -6,19 +6,25 @@ ghost use Rattle.model.specs.Outgoing.{finishes, starts_into, starts_below, star
 ghost use Rattle.model.specs.Rules.{few_ok};
 ghost use Rattle.model.specs.Taken.{taken, capped};
 
-use crate::faces::{cell_at, event_at};
+use crate::faces::{EventOf, Linked, cell_at};
 use crate::outgoing::{Move, Moves};
-use crate::rule::Rule;
-use wire::cell::Cell;
 
 impl Moves {
-    fn none() -> Moves
-        ensures { taken result ≡ [] }
+    // One step alone.
+    pub fn only(step: Move) -> Moves
+        ensures { taken result ≡ step ∷ [] }
     {
         Moves {
-            list: [Move::Wait; 16],
-            count: 0,
+            list: [step; 16],
+            count: 1,
         }
+    }
+
+    // The steps, in the order of their numbers.
+    pub fn steps(&self) -> &[Move]
+        ensures { result.now ≡ taken self.now }
+    {
+        &self.list[..self.count]
     }
 
     // One more step; those past the sixteenth are left out, and an accepted model has none.
@@ -36,14 +42,11 @@ impl Moves {
     pub fn get(&self, number: usize) -> Option<Move>
         ensures { result ≡ slice_get (taken self.now) number }
     {
-        if number < self.count {
-            Some(self.list[number])
-        } else {
-            None
-        }
+        self.steps().get(number).copied()
     }
 }
 
+// The range's numbers make the steps; there is nothing to go over.
 fn push_finishes(moves: &mut Moves, dim: usize)
     requires { dim ≤ 4 }
     ensures { taken moves.new ≡ capped (taken moves.old ++ finishes dim) }
@@ -53,47 +56,44 @@ fn push_finishes(moves: &mut Moves, dim: usize)
     }
 }
 
-// The start by event k of cell d, if c is its lower face.
-fn push_start(moves: &mut Moves, cells: &[Cell], c: usize, d: usize, k: usize)
-    requires small { length cells.now ≤ 200 }
-    requires here { d < length cells.now }
-    requires event { k < (cell_at cells.now d).dim }
-    ensures { taken moves.new ≡ capped (taken moves.old ++ start_at cells.now c d k) }
-{
-    let event = event_at(cell_at(cells, d), k);
-    if event.lower as usize == c {
-        moves.push(Move::Start(d as u16, (k + 1) as u8));
+impl EventOf<'_> {
+    // The start by this event, if c is its lower face.
+    fn push_start(&self, moves: &mut Moves, c: usize)
+        ensures { taken moves.new ≡ capped (taken moves.old ++ start_at self.now.linked.cells.now c self.now.i self.now.k) }
+    {
+        if self.face(false) == c {
+            moves.push(Move::Start(self.i as u16, (self.k + 1) as u8));
+        }
     }
 }
 
-fn push_starts_into(moves: &mut Moves, cells: &[Cell], c: usize, d: usize)
-    requires small { length cells.now ≤ 200 }
-    requires here { d < length cells.now }
-    ensures { taken moves.new ≡ capped (taken moves.old ++ starts_into cells.now c d (cell_at cells.now d).dim) }
-{
-    for k in 0..cell_at(cells, d).dim {
-        push_start(moves, cells, c, d, k);
+// By number, since the step names the cell and the event.
+impl Linked<'_> {
+    fn push_starts_into(&self, moves: &mut Moves, c: usize, d: usize)
+        requires { d < length self.now.cells.now }
+        ensures { taken moves.new ≡ capped (taken moves.old ++ starts_into self.now.cells.now c d (cell_at self.now.cells.now d).dim) }
+    {
+        for k in 0..cell_at(self.cells, d).dim {
+            self.event(d, k).push_start(moves, c);
+        }
     }
-}
 
-fn push_starts(moves: &mut Moves, cells: &[Cell], c: usize)
-    requires small { length cells.now ≤ 200 }
-    ensures { taken moves.new ≡ capped (taken moves.old ++ starts_below cells.now c (length cells.now)) }
-{
-    for d in 0..cells.len() {
-        push_starts_into(moves, cells, c, d);
+    fn push_starts(&self, moves: &mut Moves, c: usize)
+        ensures { taken moves.new ≡ capped (taken moves.old ++ starts_below self.now.cells.now c (length self.now.cells.now)) }
+    {
+        for d in 0..self.cells.len() {
+            self.push_starts_into(moves, c, d);
+        }
     }
-}
 
-// As many steps out of cell c as a table has places for: all of them in an accepted model.
-pub(crate) fn moves_out(cells: &[Cell], c: usize) -> Moves
-    requires small { length cells.now ≤ 200 }
-    requires here { c < length cells.now }
-    ensures { taken result ≡ capped (moves_out cells.now c) }
-{
-    let mut moves = Moves::none();
-    moves.push(Move::Wait);
-    push_finishes(&mut moves, cell_at(cells, c).dim);
-    push_starts(&mut moves, cells, c);
-    moves
+    // As many steps out of cell c as a table has places for: all of them in an accepted model.
+    pub(crate) fn moves_out(&self, c: usize) -> Moves
+        requires { c < length self.now.cells.now }
+        ensures { taken result ≡ capped (moves_out self.now.cells.now c) }
+    {
+        let mut moves = Moves::only(Move::Wait);
+        push_finishes(&mut moves, cell_at(self.cells, c).dim);
+        self.push_starts(&mut moves, c);
+        moves
+    }
 }

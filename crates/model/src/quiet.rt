@@ -1,5 +1,5 @@
 // The first cell and the final cells have no event.
-ghost use Rattle.std.specs.Prelude.{◌≡◌};
+ghost use Rattle.std.specs.Prelude.{◌≡◌, length};
 ghost use Rattle.model.specs.Rules.{quiet_ok};
 
 use crate::faces::cell_at;
@@ -7,17 +7,22 @@ use crate::rule::Rule;
 use wire::cell::Cell;
 
 #[derive(Clone, Copy)]
-pub(crate) struct Quiet {
+pub(crate) struct Quiet<'a> {
     pub(crate) first: usize,
+    pub(crate) cells: &'a [Cell],
 }
 
-impl Rule for Quiet {
-    ghost needs = { λ _ _. Unit {0} };
+impl Rule for Quiet<'_> {
+    ghost count = { λ q. length q.cells.now };
 
-    ghost test = { λ q cells i. quiet_ok q.first cells i };
+    ghost test = { λ q i. quiet_ok q.first q.cells.now i };
 
-    fn keeps(&self, cells: &[Cell], i: usize) -> bool {
-        let cell = cell_at(cells, i);
+    fn count(&self) -> usize {
+        self.cells.len()
+    }
+
+    fn keeps(&self, i: usize) -> bool {
+        let cell = cell_at(self.cells, i);
         cell.dim == 0 || !(i == self.first || cell.last)
     }
 }

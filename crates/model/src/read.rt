@@ -6,7 +6,6 @@ ghost use Rattle.model.specs.Laws.{Lawful};
 ghost use Rattle.model.specs.Read.{read_plan};
 ghost use Rattle.model.specs.Whole.{plan_of};
 
-use crate::accept::accept;
 use crate::accepted::Model;
 use std::alloc::Global;
 use wire::fault::Fault;
@@ -19,6 +18,6 @@ pub fn read_model(heap: Global, bytes: &[u8]) -> Result<Model, Fault>
     ensures lawful { IfOk result (λ m. Lawful (plan_of m)) }
 {
     let file = model_file(heap, bytes)?;
-    let model = accept(file)?;
+    let model = Model::try_from(file)?;
     Ok(model)
 }

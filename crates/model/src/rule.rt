@@ -1,31 +1,24 @@
 // Rules over the cells of a model: a test of one cell among all, and the lowest cell that fails it.
-ghost use Rattle.std.specs.Prelude.{◌≡◌, ℕ, ◌<◌, Bool, List, length};
-ghost use Rattle.wire.specs.declared.cell.Cell.{Cell};
+ghost use Rattle.std.specs.Prelude.{◌≡◌, ℕ, ◌<◌, Bool};
 ghost use Rattle.model.specs.Below.{first_bad};
 
-use wire::cell::Cell;
-
 pub(crate) trait Rule {
-    // what has to hold of the cells before the test makes sense
-    ghost needs: { Self → List Cell → Type 0 };
+    // how many cells there are
+    ghost count: { Self → ℕ };
 
-    ghost test: { Self → List Cell → ℕ → Bool };
+    ghost test: { Self → ℕ → Bool };
 
-    fn keeps(&self, cells: &[Cell], i: usize) -> bool
-        requires within { i < length cells.now }
-        requires ready { needs self.now cells.now }
-        ensures { result ≡ test self.now cells.now i };
+    fn count(&self) -> usize
+        ensures { result ≡ count self.now };
+
+    fn keeps(&self, i: usize) -> bool
+        requires { i < count self.now }
+        ensures { result ≡ test self.now i };
 }
 
 // The lowest cell that breaks the rule.
-pub(crate) fn lowest<R: Rule>(rule: &R, cells: &[Cell]) -> Option<usize>
-    requires { R.Rule.needs rule.now cells.now }
-    ensures { result ≡ first_bad (length cells.now) (R.Rule.test rule.now cells.now) }
+pub(crate) fn lowest<R: Rule>(rule: &R) -> Option<usize>
+    ensures { result ≡ first_bad (R.count rule.now) (R.test rule.now) }
 {
-    for i in 0..cells.len() {
-        if !rule.keeps(cells, i) {
-            return Some(i);
-        }
-    }
-    None
+    (0..rule.count()).find(|&i| !rule.keeps(i))
 }

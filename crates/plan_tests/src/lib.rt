@@ -60,33 +60,20 @@ mod tests {
         0, 3, 0, 0, 0, 32, 1, 0, 65, 66, 0, 0, 0, 2, 4, 0, 4, 0, 80, 1, 0, 2,
     ];
 
-    fn slip(refusal: Refusal, place: usize) -> Slip {
-        Slip { refusal, place }
-    }
-
     // Whether reading the bytes is refused by that slip.
-    fn turned_away(
-        rt: &impl Abort,
-        heap: Global,
-        bytes: &[u8],
-        refusal: Refusal,
-        place: usize,
-    ) -> Result<(), Fail> {
+    fn turned_away(rt: &impl Abort, heap: Global, bytes: &[u8], slip: Slip) -> Result<(), Fail> {
         match read_model(heap, bytes) {
             Ok(_) => Err(Fail::new("accepted")),
             Err(Fault::Memory) => Err(Fail::new("no memory")),
             Err(Fault::Refused(found)) => {
-                assert_eq!(rt; found, slip(refusal, place));
+                assert_eq!(rt; found, slip);
                 Ok(())
             },
         }
     }
 
-    fn three_cells(heap: Global) -> Result<Model, Fail> {
-        match read_model(heap, &THREE_CELLS) {
-            Ok(model) => Ok(model),
-            Err(_) => Err(Fail::new("refused")),
-        }
+    fn read(heap: Global, bytes: &[u8]) -> Result<Model, Fail> {
+        read_model(heap, bytes).map_err(|_| Fail::new("refused"))
     }
 
     // A trail in cell 1 at scale 2, where the barrier may be for eight ticks.
@@ -98,23 +85,20 @@ mod tests {
     }
 
     fn cell_of(trail: &Trail) -> usize {
-        match trail.position {
-            Some(p) => p.cell,
-            None => 999,
-        }
+        trail.position.map_or(999, |p| p.cell)
     }
 
     #[test]
     fn rules(rt: HostRuntime) -> Result<(), Fail> {
         let heap = rt.alloc();
-        turned_away(&rt, heap, &FIRST_BEYOND, Refusal::NoSuchCell, 500)?;
-        turned_away(&rt, heap, &FACE_BEYOND, Refusal::NoSuchCell, 1)?;
-        turned_away(&rt, heap, &FACE_WITH_EVENT, Refusal::WrongLetters, 1)?;
-        turned_away(&rt, heap, &SWAPPED_LETTERS, Refusal::WrongLetters, 8)?;
-        turned_away(&rt, heap, &BROKEN_SQUARE, Refusal::BrokenIdentity, 8)?;
-        turned_away(&rt, heap, &BUSY_FIRST, Refusal::BusyCell, 1)?;
-        turned_away(&rt, heap, &BUSY_FINAL, Refusal::BusyCell, 2)?;
-        turned_away(&rt, heap, &SIXTEEN_STARTS, Refusal::TooManySteps, 0)
+        turned_away(&rt, heap, &FIRST_BEYOND, Refusal::NoSuchCell.at(500))?;
+        turned_away(&rt, heap, &FACE_BEYOND, Refusal::NoSuchCell.at(1))?;
+        turned_away(&rt, heap, &FACE_WITH_EVENT, Refusal::WrongLetters.at(1))?;
+        turned_away(&rt, heap, &SWAPPED_LETTERS, Refusal::WrongLetters.at(8))?;
+        turned_away(&rt, heap, &BROKEN_SQUARE, Refusal::BrokenIdentity.at(8))?;
+        turned_away(&rt, heap, &BUSY_FIRST, Refusal::BusyCell.at(1))?;
+        turned_away(&rt, heap, &BUSY_FINAL, Refusal::BusyCell.at(2))?;
+        turned_away(&rt, heap, &SIXTEEN_STARTS, Refusal::TooManySteps.at(0))
     }
 
     #[test]
@@ -126,54 +110,47 @@ mod tests {
 
     #[test]
     fn setting_out(rt: HostRuntime) -> Result<(), Fail> {
-        let model = three_cells(rt.alloc())?;
+        let model = read(rt.alloc(), &THREE_CELLS)?;
         let mut trail = Trail::none();
-        assert_eq!(rt; trail.wait(&model, 1), Err(slip(Refusal::NoTrail, 0)));
-        assert_eq!(rt; trail.set_out(&model, 0), Err(slip(Refusal::BadScale, 0)));
-        assert_eq!(rt;
-            trail.set_out(&model, 1001),
-            Err(slip(Refusal::BadScale, 0))
-        );
+        assert_eq!(rt; trail.wait(&model, 1), Err(Refusal::NoTrail.at(0)));
+        assert_eq!(rt; trail.set_out(&model, 0), Err(Refusal::BadScale.at(0)));
+        assert_eq!(rt; trail.set_out(&model, 1001), Err(Refusal::BadScale.at(0)));
         assert_eq!(rt; trail.set_out(&model, 1000), Ok(()));
         assert_eq!(rt; trail.wait(&model, 1_000_000_000), Ok(()));
-        assert_eq!(rt; trail.wait(&model, 1), Err(slip(Refusal::CountTooLarge, 0)));
+        assert_eq!(rt; trail.wait(&model, 1), Err(Refusal::CountTooLarge.at(0)));
         Ok(())
     }
 
     #[test]
     fn closed_opening(rt: HostRuntime) -> Result<(), Fail> {
-        match read_model(rt.alloc(), &CLOSED_OPENING) {
-            Ok(model) => {
-                let mut trail = Trail::none();
-                assert_eq!(rt;
-                    trail.set_out(&model, 1),
-                    Err(slip(Refusal::NoConfiguration, 0))
-                );
-                Ok(())
-            }
-            Err(_) => Err(Fail::new("refused")),
-        }
+        let model = read(rt.alloc(), &CLOSED_OPENING)?;
+        let mut trail = Trail::none();
+        assert_eq!(rt;
+            trail.set_out(&model, 1),
+            Err(Refusal::NoConfiguration.at(0))
+        );
+        Ok(())
     }
 
     #[test]
     fn starting(rt: HostRuntime) -> Result<(), Fail> {
-        let model = three_cells(rt.alloc())?;
+        let model = read(rt.alloc(), &THREE_CELLS)?;
         let mut trail = Trail::none();
-        assert_eq!(rt; trail.start(&model, 3, 1), Err(slip(Refusal::Unknown, 0)));
-        assert_eq!(rt; trail.start(&model, 1, 2), Err(slip(Refusal::Unknown, 0)));
-        assert_eq!(rt; trail.start(&model, 1, 1), Err(slip(Refusal::NoTrail, 0)));
-        assert_eq!(rt; trail.finish(&model, 1), Err(slip(Refusal::NoTrail, 0)));
+        assert_eq!(rt; trail.start(&model, 3, 1), Err(Refusal::Unknown.at(0)));
+        assert_eq!(rt; trail.start(&model, 1, 2), Err(Refusal::Unknown.at(0)));
+        assert_eq!(rt; trail.start(&model, 1, 1), Err(Refusal::NoTrail.at(0)));
+        assert_eq!(rt; trail.finish(&model, 1), Err(Refusal::NoTrail.at(0)));
         assert_eq!(rt; trail.set_out(&model, 2), Ok(()));
-        assert_eq!(rt; trail.finish(&model, 1), Err(slip(Refusal::NotThere, 0)));
+        assert_eq!(rt; trail.finish(&model, 1), Err(Refusal::NotThere.at(0)));
         assert_eq!(rt; trail.start(&model, 1, 1), Ok(()));
-        assert_eq!(rt; trail.start(&model, 1, 1), Err(slip(Refusal::NotThere, 1)));
-        assert_eq!(rt; trail.start(&model, 1, 0), Err(slip(Refusal::Unknown, 1)));
+        assert_eq!(rt; trail.start(&model, 1, 1), Err(Refusal::NotThere.at(1)));
+        assert_eq!(rt; trail.start(&model, 1, 0), Err(Refusal::Unknown.at(1)));
         Ok(())
     }
 
     #[test]
     fn waiting_at_scale_two(rt: HostRuntime) -> Result<(), Fail> {
-        let model = three_cells(rt.alloc())?;
+        let model = read(rt.alloc(), &THREE_CELLS)?;
         let mut four = in_barrier(&rt, &model);
         assert_eq!(rt; four.wait(&model, 4), Ok(()));
         assert_eq!(rt; four.finish(&model, 1), Ok(()));
@@ -182,14 +159,11 @@ mod tests {
         assert_eq!(rt; three.wait(&model, 3), Ok(()));
         assert_eq!(rt;
             three.finish(&model, 1),
-            Err(slip(Refusal::NoConfiguration, 1))
+            Err(Refusal::NoConfiguration.at(1))
         );
         assert_eq!(rt; cell_of(&three), 1);
         let mut eight = in_barrier(&rt, &model);
-        assert_eq!(rt;
-            eight.wait(&model, 9),
-            Err(slip(Refusal::NoConfiguration, 1))
-        );
+        assert_eq!(rt; eight.wait(&model, 9), Err(Refusal::NoConfiguration.at(1)));
         assert_eq!(rt; eight.wait(&model, 8), Ok(()));
         Ok(())
     }

@@ -48,7 +48,7 @@ from_trail : (m : Plan) (step : Step) (t : Trail) (f : Position → Target) → 
 from_trail m step t f each = by t.position refl
   where
     by : (o : Option Position) → t.position ≡ o → Leads m step t (from_position o t f)
-    by None is = (refl, λ p q h g. let z : ◌≡◌ {A = ℕ} 0 1 = cc in omega arith)
+    by None is = (refl, λ p q h g. cc)
     by (Some p) is = each p is
 
 event_true : (m : Plan) (c k : ℕ) → has_event m c k ≡ true → HasEvent m c k

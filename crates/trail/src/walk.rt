@@ -1,23 +1,27 @@
 // The calls on a trail.
-ghost use Rattle.std.specs.Prelude.{◌≡◌, ◌&&◌, if◌then◌else◌, None, Err, nat_eq, nat_le};
-ghost use Rattle.slip.specs.declared.Refusal.TheVariants.{NotThere};
+ghost use Rattle.std.specs.Prelude.{◌≡◌, ◌-◌, ◌&&◌, if◌then◌else◌, Some, None, Ok, length, nat_lt, nat_le};
 ghost use Rattle.wire.specs.declared.step.Step.TheVariants.{Wait, Start, Finish};
+ghost use Rattle.model.specs.Cells.{cell_at, event_at};
 ghost use Rattle.model.specs.Whole.{plan_of};
-ghost use Rattle.trail.specs.Calls.{slip_at, landing, opening_at, on_trail, wait_from, start_at, finish_from, outcome, setting_out, waited, started, finished, stepped, into, room_for};
+ghost use Rattle.trail.specs.Calls.{slip_at, landing, opening_at, on_trail, wait_from, start_at, finish_from, outcome, setting_out, waited, started, finished, stepped, into, has_event, room_for};
 ghost use Rattle.trail.specs.Walks.{SetsOut, Walks};
 
 use crate::config::{LIMIT, cleared_counts, fit, later_counts, meets_cell};
 use crate::position::{Position, Trail};
 use model::accepted::Model;
 use slip::{Refusal, Slip};
-use wire::cell::Cell;
+use wire::cell::{Cell, Event};
 use wire::step::Step;
 
-// Whether event k, counted from 1, is one of the cell's.
-fn has_event(cell: &Cell, k: u8) -> bool
-    ensures { result ≡ (nat_le 1 k && nat_le k cell.now.dim) }
+// Event k of the cell, counted from 1, if it has one.
+fn event_of(cell: &Cell, k: u8) -> Option<Event>
+    ensures { result ≡ (if nat_le 1 k && nat_le k cell.now.dim then Some (event_at cell.now (k - 1)) else None) }
 {
-    1 <= k && k as usize <= cell.dim
+    if 1 <= k && k as usize <= cell.dim {
+        Some(cell.events[k as usize - 1])
+    } else {
+        None
+    }
 }
 
 fn room_for(p: &Position, ticks: u32) -> bool
@@ -26,17 +30,106 @@ fn room_for(p: &Position, ticks: u32) -> bool
     fit(&p.counts, ticks) && p.elapsed as u64 + ticks as u64 <= LIMIT as u64
 }
 
-// The position after going into cell d: the exit set of the cell left is reset.
-fn going_into(model: &Model, d: usize, p: &Position) -> Position
-    ensures { result ≡ into (plan_of model.now) d p.now }
-{
-    let left = model.cell(p.cell);
-    let counts = cleared_counts(left.exits, &p.counts);
-    Position {
-        cell: d,
-        counts,
-        scale: p.scale,
-        elapsed: p.elapsed,
+// A trail in its model: where a call would lead it.
+#[derive(Clone, Copy)]
+struct Walk<'a> {
+    model: &'a Model,
+    trail: &'a Trail,
+}
+
+impl Walk<'_> {
+    fn slip(&self, refusal: Refusal) -> Slip
+        ensures { result ≡ slip_at refusal self.now.trail.now }
+    {
+        refusal.at(self.trail.position.map_or(0, |p| p.cell))
+    }
+
+    // Where the trail stands.
+    fn position(&self) -> Result<Position, Slip>
+        ensures { result ≡ on_trail self.now.trail.now Ok }
+    {
+        self.trail.position.ok_or(self.slip(Refusal::NoTrail))
+    }
+
+    // The position, if it is a configuration.
+    fn landing(&self, p: Position) -> Result<Position, Slip>
+        ensures { result ≡ landing (plan_of self.now.model.now) p self.now.trail.now }
+    {
+        if meets_cell(&self.model.cell(p.cell), p.scale, &p.counts) {
+            Ok(p)
+        } else {
+            Err(self.slip(Refusal::NoConfiguration))
+        }
+    }
+
+    // The position after going into cell d: the exit set of the cell left is reset.
+    fn going_into(&self, d: usize, p: &Position) -> Position
+        ensures { result ≡ into (plan_of self.now.model.now) d p.now }
+    {
+        let left = self.model.cell(p.cell);
+        Position {
+            cell: d,
+            counts: cleared_counts(left.exits, &p.counts),
+            ..*p
+        }
+    }
+
+    fn opening(&self, scale: u16) -> Result<Position, Slip>
+        ensures { result ≡ opening_at (plan_of self.now.model.now) scale self.now.trail.now }
+    {
+        if !(1..=1000).contains(&scale) {
+            return Err(self.slip(Refusal::BadScale));
+        }
+        self.landing(Position {
+            cell: self.model.first,
+            counts: [0; 6],
+            scale,
+            elapsed: 0,
+        })
+    }
+
+    fn wait(&self, ticks: u32) -> Result<Position, Slip>
+        ensures { result ≡ on_trail self.now.trail.now (wait_from (plan_of self.now.model.now) ticks self.now.trail.now) }
+    {
+        let p = self.position()?;
+        if !room_for(&p, ticks) {
+            return Err(self.slip(Refusal::CountTooLarge));
+        }
+        self.landing(Position {
+            counts: later_counts(&p.counts, ticks),
+            elapsed: p.elapsed + ticks,
+            ..p
+        })
+    }
+
+    // Event k of that cell, if the model has it.
+    fn event(&self, cell: usize, k: u8) -> Option<Event>
+        ensures { result ≡ (if nat_lt cell (length (plan_of self.now.model.now).cells) && has_event (plan_of self.now.model.now) cell k then Some (event_at (cell_at (plan_of self.now.model.now).cells cell) (k - 1)) else None) }
+    {
+        self.model
+            .cells
+            .get(cell)
+            .and_then(|entered| event_of(entered, k))
+    }
+
+    fn start(&self, cell: usize, k: u8) -> Result<Position, Slip>
+        ensures { result ≡ start_at (plan_of self.now.model.now) cell k self.now.trail.now }
+    {
+        let event = self.event(cell, k).ok_or(self.slip(Refusal::Unknown))?;
+        let p = self.position()?;
+        if event.lower as usize != p.cell {
+            return Err(self.slip(Refusal::NotThere));
+        }
+        self.landing(self.going_into(cell, &p))
+    }
+
+    fn finish(&self, k: u8) -> Result<Position, Slip>
+        ensures { result ≡ on_trail self.now.trail.now (finish_from (plan_of self.now.model.now) k self.now.trail.now) }
+    {
+        let p = self.position()?;
+        let here = self.model.cell(p.cell);
+        let event = event_of(&here, k).ok_or(self.slip(Refusal::NotThere))?;
+        self.landing(self.going_into(event.upper as usize, &p))
     }
 }
 
@@ -47,137 +140,12 @@ impl Trail {
         Trail { position: None }
     }
 
-    fn slip(&self, refusal: Refusal) -> Slip
-        ensures { result ≡ slip_at refusal self.now }
-    {
-        let place = match self.position {
-            Some(p) => p.cell,
-            None => 0,
-        };
-        Slip { refusal, place }
-    }
-
-    // The position, if it is a configuration.
-    fn landing_at(&self, model: &Model, p: Position) -> Result<Position, Slip>
-        ensures { result ≡ landing (plan_of model.now) p self.now }
-    {
-        if meets_cell(&model.cell(p.cell), p.scale, &p.counts) {
-            Ok(p)
-        } else {
-            Err(self.slip(Refusal::NoConfiguration))
-        }
-    }
-
-    fn opening_at(&self, model: &Model, scale: u16) -> Result<Position, Slip>
-        ensures { result ≡ opening_at (plan_of model.now) scale self.now }
-    {
-        if 1 <= scale && scale <= 1000 {
-            self.landing_at(
-                model,
-                Position {
-                    cell: model.first,
-                    counts: [0; 6],
-                    scale,
-                    elapsed: 0,
-                },
-            )
-        } else {
-            Err(self.slip(Refusal::BadScale))
-        }
-    }
-
-    fn wait_from(&self, model: &Model, ticks: u32, p: &Position) -> Result<Position, Slip>
-        ensures { result ≡ wait_from (plan_of model.now) ticks self.now p.now }
-    {
-        if !room_for(p, ticks) {
-            return Err(self.slip(Refusal::CountTooLarge));
-        }
-        let counts = later_counts(&p.counts, ticks);
-        self.landing_at(
-            model,
-            Position {
-                cell: p.cell,
-                counts,
-                scale: p.scale,
-                elapsed: p.elapsed + ticks,
-            },
-        )
-    }
-
-    fn start_from(
-        &self,
-        model: &Model,
-        entered: usize,
-        lower: usize,
-        p: &Position,
-    ) -> Result<Position, Slip>
-        ensures { result ≡ (if nat_eq lower p.now.cell then landing (plan_of model.now) (into (plan_of model.now) entered p.now) self.now else Err (slip_at NotThere self.now)) }
-    {
-        if lower == p.cell {
-            self.landing_at(model, going_into(model, entered, p))
-        } else {
-            Err(self.slip(Refusal::NotThere))
-        }
-    }
-
-    fn start_at(&self, model: &Model, cell: usize, k: u8) -> Result<Position, Slip>
-        ensures { result ≡ start_at (plan_of model.now) cell k self.now }
-    {
-        let entered = model.cell(cell);
-        if cell >= model.cells.len() || !has_event(&entered, k) {
-            return Err(self.slip(Refusal::Unknown));
-        }
-        match &self.position {
-            Some(p) => self.start_from(
-                model,
-                cell,
-                entered.events[k as usize - 1].lower as usize,
-                p,
-            ),
-            None => Err(self.slip(Refusal::NoTrail)),
-        }
-    }
-
-    fn finish_from(&self, model: &Model, k: u8, p: &Position) -> Result<Position, Slip>
-        ensures { result ≡ finish_from (plan_of model.now) k self.now p.now }
-    {
-        let here = model.cell(p.cell);
-        if !has_event(&here, k) {
-            return Err(self.slip(Refusal::NotThere));
-        }
-        let entered = here.events[k as usize - 1].upper as usize;
-        self.landing_at(model, going_into(model, entered, p))
-    }
-
-    fn wait_at(&self, model: &Model, ticks: u32) -> Result<Position, Slip>
-        ensures { result ≡ on_trail self.now (wait_from (plan_of model.now) ticks self.now) }
-    {
-        match &self.position {
-            Some(p) => self.wait_from(model, ticks, p),
-            None => Err(self.slip(Refusal::NoTrail)),
-        }
-    }
-
-    fn finish_at(&self, model: &Model, k: u8) -> Result<Position, Slip>
-        ensures { result ≡ on_trail self.now (finish_from (plan_of model.now) k self.now) }
-    {
-        match &self.position {
-            Some(p) => self.finish_from(model, k, p),
-            None => Err(self.slip(Refusal::NoTrail)),
-        }
-    }
-
     // Goes where a call leads, or stays where it is refused.
     fn go(&mut self, target: Result<Position, Slip>) -> Result<(), Slip>
         ensures { (result, self.new) ≡ outcome target self.old }
     {
-        match target {
-            Ok(p) => {
-                self.position = Some(p);
-                Ok(())
-            }
-            Err(slip) => Err(slip),
-        }
+        self.position = Some(target?);
+        Ok(())
     }
 
     // Puts the trail at the opening of a run: the first cell with six zeros.
@@ -185,7 +153,7 @@ impl Trail {
         ensures is { (result, self.new) ≡ setting_out (plan_of model.now) scale self.old }
         ensures opens { SetsOut (plan_of model.now) scale self.old result self.new }
     {
-        let target = self.opening_at(model, scale);
+        let target = Walk { model, trail: self }.opening(scale);
         self.go(target)
     }
 
@@ -194,7 +162,7 @@ impl Trail {
         ensures is { (result, self.new) ≡ waited (plan_of model.now) ticks self.old }
         ensures walks { Walks (plan_of model.now) (Wait ticks) self.old result self.new }
     {
-        let target = self.wait_at(model, ticks);
+        let target = Walk { model, trail: self }.wait(ticks);
         self.go(target)
     }
 
@@ -203,7 +171,7 @@ impl Trail {
         ensures is { (result, self.new) ≡ started (plan_of model.now) cell k self.old }
         ensures walks { Walks (plan_of model.now) (Start cell k) self.old result self.new }
     {
-        let target = self.start_at(model, cell as usize, k);
+        let target = Walk { model, trail: self }.start(cell as usize, k);
         self.go(target)
     }
 
@@ -212,7 +180,7 @@ impl Trail {
         ensures is { (result, self.new) ≡ finished (plan_of model.now) k self.old }
         ensures walks { Walks (plan_of model.now) (Finish k) self.old result self.new }
     {
-        let target = self.finish_at(model, k);
+        let target = Walk { model, trail: self }.finish(k);
         self.go(target)
     }
 

@@ -1,18 +1,13 @@
-use Rattle.std.proofs.Common.{◌≡◌, true, false, sym}
-use Rattle.model.specs.Cells.{event_at}
+use Rattle.std.proofs.Common.{take, ◌∙◌, rules}
+use Rattle.std.proofs.lemmas.Iterator.{YieldsList-from_slice}
+use Rattle.std.proofs.lemmas.Iterator.Search.{all_from_yields_List}
+use Rattle.model.specs.Cells.{blank_event}
 use Rattle.model.specs.Rules.{inside_of}
-use Rattle.model.proofs.Below.{all_none, all_more, all_stop}
+use Rattle.model.proofs.Ranges.{list_all_places}
 use Rattle.model.proofs.faces.faces_below.Goals as goal
 
-pub loop-k-init : goal.loop-k-init
-loop-k-init c = all_none _
-
-pub loop-k-preserved : goal.loop-k-preserved
-loop-k-preserved c =
-    let e : inside_of c.args.n (event_at c.args.cell.now c.loop-k.k) ≡ true = cc in
-    all_more _ _ c.loop-k.invariant e
-
-pub returns-then-not-event_below : goal.returns-then-not-event_below
-returns-then-not-event_below c =
-    let e : inside_of c.args.n (event_at c.args.cell.now c.loop-k.k) ≡ false = cc in
-    sym (all_stop _ _ _ c.loop-k-test.true e)
+pub returns : goal.returns
+returns c =
+    let cell = c.args.cell.now in
+    all_from_yields_List (inside_of c.args.n) _ _ c.all.result c.all.ensures.ran (YieldsList-from_slice (take c.args.cell.now.dim c.args.cell.now.events) cc) (λ e b q h. search rules)
+    ∙ list_all_places cell.dim (inside_of c.args.n) cell.events blank_event c.events_of.ensures.long

@@ -1,16 +1,11 @@
-use Rattle.std.proofs.Common.{refl, arith}
-use Rattle.model.specs.Outgoing.{starts_into}
-use Rattle.model.proofs.Counts.{start_most, into_more}
+use Rattle.std.proofs.Common.{◌≡◌, ◌≤◌, length, eqb, take, count_by, ◌∙◌, rules}
+use Rattle.wire.specs.declared.cell.Event.{Event}
+use Rattle.model.specs.Cells.{cell_at}
+use Rattle.model.proofs.Counts.{into_counts}
 use Rattle.model.proofs.few.count_starts_into.Goals as goal
 
-pub loop-k-init : goal.loop-k-init
-unfolding starts_into
-loop-k-init c = (refl, omega arith)
-
-pub loop-k-preserved : goal.loop-k-preserved
-loop-k-preserved c =
-    let m = into_more c.args.cells.now c.args.c c.args.d c.loop-k.k in
-    let o = start_most c.args.cells.now c.args.c c.args.d c.loop-k.k in
-    let i = c.loop-k.invariant in
-    let s = c.count_start-count.ensures in
-    (omega (arith, i.0), omega (arith, i.1))
+pub returns-clause-is : goal.returns-clause-is
+returns-clause-is c =
+    let e : c.count.result ≡ count_by (λ (e : Event). eqb e.lower c.args.c) (take (cell_at c.args.cells.now c.args.d).dim (cell_at c.args.cells.now c.args.d).events) = search rules in
+    let le : (cell_at c.args.cells.now c.args.d).dim ≤ length (cell_at c.args.cells.now c.args.d).events = rw (← c.cell_at.ensures) c.events_of.ensures.long in
+    e ∙ into_counts c.args.cells.now c.args.c c.args.d _ le

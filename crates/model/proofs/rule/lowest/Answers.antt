@@ -1,13 +1,12 @@
-use Rattle.std.proofs.Common.{sym, ◌∙◌}
-use Rattle.model.proofs.Below.{bad_none, bad_more, bad_stop}
+use Rattle.std.proofs.Common.{◌≡◌, ℕ, Bool, true, false, ap, ◌∙◌, rules}
+use Rattle.std.proofs.lemmas.Iterator.{first_from_Range}
+use Rattle.model.specs.Below.{first_bad}
+use Rattle.model.proofs.Ranges.{bad_from_first}
 use Rattle.model.proofs.rule.lowest.Goals as goal
 
-pub loop-i-init : goal.loop-i-init
-loop-i-init g c = bad_none _
-
-pub loop-i-preserved : goal.loop-i-preserved
-loop-i-preserved g c = bad_more _ _ c.loop-i.invariant (sym c.keeps.ensures ∙ c.if-not-keeps.false)
-
-pub returns-then-not-keeps : goal.returns-then-not-keeps
-returns-then-not-keeps g c =
-    sym (bad_stop _ _ _ c.loop-i-test.true c.loop-i.invariant (sym c.keeps.ensures ∙ c.if-not-keeps.true))
+pub returns : goal.returns
+returns g c =
+    let test : ℕ → Bool = g.R.Rule.test c.args.rule.now in
+    bad_from_first _ test c.find.result
+    (first_from_Range _ _ _ c.find.result (λ k. test k ≡ false) (λ k. test k ≡ true) c.find.ensures.ran (λ k q h. search rules) (λ k q h. search rules))
+    ∙ ap (λ (n : ℕ). first_bad n test) c.count.ensures

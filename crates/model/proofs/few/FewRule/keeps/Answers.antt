@@ -5,4 +5,4 @@ use Rattle.model.proofs.few.FewRule.keeps.Goals as goal
 
 pub returns : goal.returns
 unfolding few_ok
-returns c = let m = moves_length c.args.cells.now c.args.i in search rules
+returns c = let m = moves_length c.args.self.now.0.cells.now c.args.i in search rules
