@@ -7,6 +7,7 @@ use clockset::ClockSet;
 use slip::Slip;
 use zone::Zone;
 
+// The exports of kinds_export answer with the refusal's number, these with whether the zone came: two C interfaces, a `put` for each.
 fn put(zone: &mut Zone, res: Result<Zone, Slip>) -> bool {
     match res {
         Ok(z) => {
@@ -25,11 +26,10 @@ pub extern "C" fn bench_zone_gap(
     strict: bool,
     constant: i32,
 ) -> bool {
-    let sign = if strict { Sign::Below } else { Sign::AtMost };
     let result = zone.gap(Gap {
         first,
         second,
-        sign,
+        sign: Sign::strict(strict),
         constant,
     });
     put(zone, result)

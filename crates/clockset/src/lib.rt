@@ -48,11 +48,7 @@ pub trait ClockSet: Copy {
     fn cut(&self, gaps: &[Gap]) -> Result<Self, Slip>
         ensures { result ≡ cut_all calls gaps.now self.now }
     {
-        let mut set = *self;
-        for gap in gaps {
-            set = set.gap(*gap)?;
-        }
-        Ok(set)
+        gaps.iter().try_fold(*self, |set, gap| set.gap(*gap))
     }
 
     // what the calls keep, and that a yes is true

@@ -6,6 +6,7 @@ use weight::{Bound, all_small, close};
 
 // 0: closed. 1: no closed form, and every bound is now "below 0". The closing asks for 49 bounds with small constants: 2 where there are not 49, 3
 // where a constant passes 4,000,000 either way, and nothing is changed then.
+// A number, since C code has no enum of answers.
 #[unsafe(no_mangle)]
 pub extern "C" fn kinds_close(m: &mut [Bound]) -> u8
     ensures { (result, map limit_of m.new) ≡ close_told (map limit_of m.old) }

@@ -3,10 +3,9 @@ ghost use Rattle.order_set.specs.Orders.{order_calls};
 ghost use Rattle.kinds_export.specs.Answers.{gap_of, told};
 ghost use Rattle.kinds_export.specs.Codes.{sign_of, code_of, set_of, codes_of};
 
-use crate::answer::gap_of;
+use crate::answer::{gap_of, put};
 use clockset::ClockSet;
 use order_set::OrderSet;
-use slip::Slip;
 use weight::OrderSign;
 
 // An order set in plain bytes, since foreign code could write a sign that is none: 0 is below zero, 1 at most zero, every other
@@ -17,6 +16,7 @@ pub struct OrderCodes {
     pub codes: [u8; 49],
 }
 
+// Functions, and no `From`: neither the byte nor the sign is a type of this crate.
 fn sign_of(code: u8) -> OrderSign
     ensures { result ≡ sign_of code }
 {
@@ -37,35 +37,23 @@ fn code_of(sign: OrderSign) -> u8
     }
 }
 
-fn set_of(set: &OrderCodes) -> OrderSet
-    ensures { result ≡ set_of set.now }
-{
-    let mut signs = [OrderSign::Free; 49];
-    for p in 0..49 {
-        signs[p] = sign_of(set.codes[p]);
-    }
-    OrderSet { signs }
-}
+impl From<OrderCodes> for OrderSet {
+    ghost from_gives = { λ c s. s ≡ set_of c };
 
-fn codes_of(set: &OrderSet) -> OrderCodes
-    ensures { result ≡ codes_of set.now }
-{
-    let mut codes = [0; 49];
-    for p in 0..49 {
-        codes[p] = code_of(set.signs[p]);
-    }
-    OrderCodes { codes }
-}
-
-fn put_codes(set: &mut OrderCodes, res: Result<OrderSet, Slip>) -> u8
-    ensures { (result, set.new) ≡ told codes_of set.old res }
-{
-    match res {
-        Ok(s) => {
-            *set = codes_of(&s);
-            0
+    fn from(set: OrderCodes) -> OrderSet {
+        OrderSet {
+            signs: set.codes.map(sign_of),
         }
-        Err(e) => e.refusal.number(),
+    }
+}
+
+impl From<OrderSet> for OrderCodes {
+    ghost from_gives = { λ s c. c ≡ codes_of s };
+
+    fn from(set: OrderSet) -> OrderCodes {
+        OrderCodes {
+            codes: set.signs.map(code_of),
+        }
     }
 }
 
@@ -73,14 +61,14 @@ fn put_codes(set: &mut OrderCodes, res: Result<OrderSet, Slip>) -> u8
 pub extern "C" fn kinds_order_all(set: &mut OrderCodes)
     ensures { set.new ≡ codes_of order_calls.all }
 {
-    *set = codes_of(&OrderSet::all());
+    *set = OrderCodes::from(OrderSet::all());
 }
 
 #[unsafe(no_mangle)]
 pub extern "C" fn kinds_order_zero(set: &mut OrderCodes)
     ensures { set.new ≡ codes_of order_calls.zero }
 {
-    *set = codes_of(&OrderSet::zero());
+    *set = OrderCodes::from(OrderSet::zero());
 }
 
 #[unsafe(no_mangle)]
@@ -93,36 +81,36 @@ pub extern "C" fn kinds_order_gap(
 ) -> u8
     ensures { (result, set.new) ≡ told codes_of set.old (order_calls.gap (set_of set.old) (gap_of first second strict constant)) }
 {
-    let result = set_of(set).gap(gap_of(first, second, strict, constant));
-    put_codes(set, result)
+    let result = OrderSet::from(*set).gap(gap_of(first, second, strict, constant));
+    put(set, result)
 }
 
 #[unsafe(no_mangle)]
 pub extern "C" fn kinds_order_reset(set: &mut OrderCodes, mask: u8) -> u8
     ensures { (result, set.new) ≡ told codes_of set.old (order_calls.reset (set_of set.old) mask) }
 {
-    let result = set_of(set).reset(mask);
-    put_codes(set, result)
+    let result = OrderSet::from(*set).reset(mask);
+    put(set, result)
 }
 
 #[unsafe(no_mangle)]
 pub extern "C" fn kinds_order_delay(set: &mut OrderCodes) -> u8
     ensures { (result, set.new) ≡ told codes_of set.old (order_calls.delay (set_of set.old)) }
 {
-    let result = set_of(set).delay();
-    put_codes(set, result)
+    let result = OrderSet::from(*set).delay();
+    put(set, result)
 }
 
 #[unsafe(no_mangle)]
 pub extern "C" fn kinds_order_within(low: &OrderCodes, high: &OrderCodes) -> bool
     ensures { result ≡ order_calls.within (set_of low.now) (set_of high.now) }
 {
-    set_of(low).within(&set_of(high))
+    OrderSet::from(*low).within(&OrderSet::from(*high))
 }
 
 #[unsafe(no_mangle)]
 pub extern "C" fn kinds_order_is_empty(set: &OrderCodes) -> bool
     ensures { result ≡ order_calls.empty (set_of set.now) }
 {
-    set_of(set).is_empty()
+    OrderSet::from(*set).is_empty()
 }

@@ -1,5 +1,5 @@
 -- The loops over rows and places.
-use Rattle.std.proofs.Common.{◌≡◌, ℕ, ◌+◌, ◌*◌, ◌/◌, ◌%◌, ◌<◌, ◌≤◌, Bool, true, false, cond, not, ◌&&◌, ◌||◌, eqb, ltb, ◌≢◌, List, length, get_or, set, Some, None, sym, refl, ap, ◌∙◌, ⊎_elim, arith}
+use Rattle.std.proofs.Common.{◌≡◌, ℕ, ◌+◌, ◌*◌, ◌<◌, ◌≤◌, Bool, true, false, cond, not, ◌&&◌, ◌||◌, eqb, ltb, ◌≢◌, List, length, set, Some, None, sym, refl, ap, ◌∙◌, ⊎_elim, arith}
 use Rattle.std.proofs.lemmas.List.{get_or-set_other, get_or-set_same}
 use Rattle.std.proofs.lemmas.Bool.{and_from, and_left, and_right, cases_eq, cond_both, cond-false, cond-true, eq-eqb, le-ltb, lt-ltb, ne_eqb, or_from, or_left, or_right}
 use Rattle.std.proofs.lemmas.Bool.Decides.{nat_tests}
@@ -119,13 +119,6 @@ module _ {V : Type 0} (u : V) (old d e : ℕ → ℕ → V) where
 
   pub free_all : Agree d (free_to u old 7) → Agree d (λ x y. cond (not (eqb x 0) && eqb y 0) u (old x y))
   free_all inv x y hx hy = let a = inv x y hx hy in grind (arith, nat_tests)
-
--- the test at a place, by its row and column
-pub test_at : {V : Type 0} (leb : V → V → Bool) (blank : V) (xs ys : List V) (p : ℕ) (x y : V) (r : Bool) → x ≡ get_or xs p blank → y ≡ get_or ys p blank → leb x y ≡ r
-    → leb (cell blank xs (p / 7) (p % 7)) (cell blank ys (p / 7) (p % 7)) ≡ r
-test_at leb blank xs ys p x y r a b e =
-    let whole : 7 * (p / 7) + p % 7 ≡ p = omega arith in
-    rw (whole, ← a, ← b) e
 
 -- tightening makes no weight larger
 pub tight_room : {V : Type 0} (leb : V → V → Bool) (plus : V → V → V) (neutral blank hopeless : V) (size : V → ℕ) (n : ℕ) (xs : List V)

@@ -2,15 +2,19 @@
 
 #![tactic(auto)]
 
-ghost use Rattle.std.specs.Prelude.{◌≡◌, ℕ, ◌/◌, ◌%◌, ◌^◌, ◌<◌, ◌≤◌, true, false, not, ◌&&◌, map, length, if◌then◌else◌, Some, None, ◌==◌};
+ghost use Rattle.std.specs.Prelude.{◌≡◌, ℕ, ◌^◌, ◌<◌, ◌≤◌, true, false, not, ◌&&◌, map, length, if◌then◌else◌, Some, None, ◌==◌};
 ghost use Rattle.clocks.specs.Gaps.{good_gap};
 ghost use Rattle.clocks.specs.Readings.{in_mask};
 ghost use Rattle.weight.specs.Closing.{cell, empty_form, Within};
 ghost use Rattle.zone_theory.specs.Matrices.{home as home_of};
 ghost use Rattle.zone_theory.specs.Sets.{tabled, tight, canonical_form, or_empty, cut_weights, cut_form, reset_form, delay_form, beneath_all, within_form};
 
-use clocks::Gap;
+use clocks::{Gap, stands_in};
+use std::array;
 use weight::{Weight, close};
+
+// Each call says the length of its matrix, for the reason given in weight's `closing`; `room`, which is no invariant of a type,
+// since a closed form may pass 2^22; and `start`, a fact of the weight's type, since a bound would ask an impl of callers.
 
 // Two different clocks from 0 to 6, and a constant from -9,999 to 9,999.
 pub fn is_good_gap(gap: Gap) -> bool
@@ -38,13 +42,15 @@ pub fn tighten<W: Weight>(m: &mut [W])
     requires { length m.old ≡ 49 }
     ensures { map W.value m.new ≡ tabled (tight W.leb W.plus W.neutral W.unbounded W.hopeless (cell W.unbounded (map W.value m.old))) }
 {
+    // An index, since it names the clock.
     for k in 0..7 {
         cut(m, 0, k, W::neutral_weight());
         cut(m, k, k, W::neutral_weight());
     }
 }
 
-// Brings a set to its closed form; false where it has no reading, and the set is then the one empty form.
+// Brings a set to its closed form; false where it has no reading, and the set is then the one empty form. (A `bool`, as the set is
+// written either way.)
 pub fn canonicalize<W: Weight>(m: &mut [W]) -> bool
     requires long { length m.old ≡ 49 }
     requires room { Within W.size W.unbounded (2 ^ 22) (map W.value m.old) }
@@ -56,31 +62,21 @@ pub fn canonicalize<W: Weight>(m: &mut [W]) -> bool
     close(m)
 }
 
-fn bit(mask: u8, k: usize) -> bool
-    requires { k < 8 }
-    ensures { result ≡ (mask / 2 ^ k % 2 == 1) }
-{
-    (mask >> k) & 1 == 1
-}
-
 // Where the count of clock i comes from when the clocks of a mask are put to zero: bit 0 names clock 1.
 fn home(mask: u8, i: usize) -> usize
     requires { i < 7 }
     ensures same { result ≡ home_of (in_mask mask) i }
     ensures inside { result < 7 }
 {
-    if i == 0 || bit(mask, i - 1) { 0 } else { i }
+    if stands_in(mask, i) { 0 } else { i }
 }
 
 // The clocks of a mask are put to zero in a closed form.
-fn reset<W: Weight>(from: &[W], mask: u8, to: &mut [W])
-    requires source { length from.now ≡ 49 }
-    requires long { length to.old ≡ 49 }
-    ensures { map W.value to.new ≡ tabled (λ i j. cell W.unbounded (map W.value from.now) (home_of (in_mask mask) i) (home_of (in_mask mask) j)) }
+fn reset<W: Weight>(from: &[W], mask: u8) -> [W; 49]
+    requires { length from.now ≡ 49 }
+    ensures { map W.value result ≡ tabled (λ i j. cell W.unbounded (map W.value from.now) (home_of (in_mask mask) i) (home_of (in_mask mask) j)) }
 {
-    for p in 0..49 {
-        to[p] = from[7 * home(mask, p / 7) + home(mask, p % 7)];
-    }
+    array::from_fn(|p| from[7 * home(mask, p / 7) + home(mask, p % 7)])
 }
 
 // Time goes on from a closed form: the clocks lose their upper bounds.
@@ -89,6 +85,7 @@ fn delay<W: Weight>(m: &mut [W], free: W)
     requires lets { W.value free ≡ W.unbounded }
     ensures { map W.value m.new ≡ tabled (λ i j. (if not (i == 0) && j == 0 then W.unbounded else cell W.unbounded (map W.value m.old) i j)) }
 {
+    // An index, since it names the row.
     for i in 1..7 {
         m[7 * i] = free;
     }
@@ -100,12 +97,7 @@ fn is_beneath<W: Weight>(low: &[W], high: &[W]) -> bool
     requires high { length high.now ≡ 49 }
     ensures { result ≡ beneath_all W.leb W.plus W.neutral W.unbounded W.hopeless (map W.value low.now) (map W.value high.now) }
 {
-    for p in 0..49 {
-        if !low[p].at_most(high[p]) {
-            return false;
-        }
-    }
-    true
+    low.iter().zip(high).all(|(x, y)| x.at_most(*y))
 }
 
 // What is left of a set after one more weight, in closed form.
@@ -122,20 +114,19 @@ pub fn cut_form<W: Weight>(m: &mut [W], i: usize, j: usize, weight: W)
     canonicalize(m);
 }
 
-// Brings a set to closed form, where it stands, and writes it with the clocks of a mask put to zero. The empty form stays as it is.
-pub fn reset_form<W: Weight>(from: &mut [W], mask: u8, to: &mut [W])
+// Brings a set to closed form, where it stands, and gives it with the clocks of a mask put to zero. The empty form stays as it is.
+pub fn reset_form<W: Weight>(from: &mut [W], mask: u8) -> [W; 49]
     requires source { length from.old ≡ 49 }
-    requires long { length to.old ≡ 49 }
     requires room { Within W.size W.unbounded (2 ^ 22) (map W.value from.old) }
     requires start { W.size W.neutral ≤ 2 ^ 22 }
-    ensures made { map W.value to.new ≡ reset_form W.leb W.plus W.neutral W.unbounded W.hopeless (in_mask mask) (map W.value from.old) }
+    ensures made { map W.value result ≡ reset_form W.leb W.plus W.neutral W.unbounded W.hopeless (in_mask mask) (map W.value from.old) }
     ensures closed { map W.value from.new ≡ or_empty W.leb W.plus W.neutral W.unbounded W.hopeless (canonical_form W.leb W.plus W.neutral W.unbounded W.hopeless (map W.value from.old)) }
 {
     canonicalize(from);
-    reset(from, mask, to);
+    reset(from, mask)
 }
 
-// Time goes on.
+// Time goes on. The weight that lets all through comes from the caller, since a weight need not store one.
 pub fn delay_form<W: Weight>(m: &mut [W], free: W)
     requires long { length m.old ≡ 49 }
     requires room { Within W.size W.unbounded (2 ^ 22) (map W.value m.old) }

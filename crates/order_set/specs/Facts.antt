@@ -31,6 +31,10 @@ map_self (x ∷ xs) = ap (λ ys. x ∷ ys) (map_self xs)
 pub read_again : (xs : List OrderSign) → length xs ≡ 49 → sign_list (stored xs) ≡ xs
 read_again xs long = sym (tabled_from Below (λ i j. slice_index_or xs (7 * i + j) Below) xs long (λ i j hi hj. refl))
 
+-- the signs of a set, as a matrix of weights reads them
+pub signs_list : (a : OrderSet) → length a.signs ≡ 49 → map (λ x. x) a.signs ≡ sign_list a
+signs_list a long = map_self a.signs ∙ tabled_from Below (λ i j. slice_index_or a.signs (7 * i + j) Below) a.signs long (λ i j hi hj. refl)
+
 good_ok : (good : Bool) (xs : List OrderSign) (b : OrderSet) → cond good (Ok (stored xs)) (Err bad_argument) ≡ Ok b → (good ≡ true) × (b ≡ stored xs)
 good_ok true xs b e = (refl, cc)
 good_ok false xs b e = absurd (let z : ◌≡◌ {A = ℕ} 0 1 = cc in omega arith)

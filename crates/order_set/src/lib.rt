@@ -29,18 +29,7 @@ pub struct OrderSet {
     pub signs: [OrderSign; 49],
 }
 
-fn load(set: &OrderSet) -> [OrderSign; 49]
-    ensures long { length result ≡ 49 }
-    ensures same { result ≡ sign_list set.now }
-{
-    let mut m = [OrderSign::Free; 49];
-    for p in 0..49 {
-        m[p] = set.signs[p];
-    }
-    m
-}
-
-// The order that follows from a gap.
+// The order that follows from a gap. A function and no `From`: neither type is of this crate.
 fn sign_of(gap: Gap) -> OrderSign
     ensures { result ≡ gap_sign gap }
 {
@@ -56,15 +45,7 @@ fn sign_of(gap: Gap) -> OrderSign
     }
 }
 
-fn refused() -> Slip
-    ensures { result ≡ bad_argument }
-{
-    Slip {
-        refusal: Refusal::BadArgument,
-        place: 0,
-    }
-}
-
+// The calls are those of `matrix`; an order set has nothing to read anew, and refuses nothing but a bad argument.
 impl ClockSet for OrderSet {
     ghost holds = { order_holds };
 
@@ -115,9 +96,9 @@ impl ClockSet for OrderSet {
         ensures exact { GapStands self.now gap result }
     {
         if !is_good_gap(gap) {
-            return Err(refused());
+            return Err(Refusal::BadArgument.at(0));
         }
-        let mut m = load(self);
+        let mut m = self.signs;
         cut_form(
             &mut m,
             gap.first as usize,
@@ -132,19 +113,18 @@ impl ClockSet for OrderSet {
         ensures exact { ResetStands self.now mask result }
     {
         if mask >= 64 {
-            return Err(refused());
+            return Err(Refusal::BadArgument.at(0));
         }
-        let mut m = load(self);
-        let mut to = m;
-        reset_form(&mut m, mask, &mut to);
-        Ok(OrderSet { signs: to })
+        let mut m = self.signs;
+        let signs = reset_form(&mut m, mask);
+        Ok(OrderSet { signs })
     }
 
     fn delay(&self) -> Result<OrderSet, Slip>
         ensures same { result ≡ order_calls.delay self.now }
         ensures exact { DelayStands self.now result }
     {
-        let mut m = load(self);
+        let mut m = self.signs;
         delay_form(&mut m, OrderSign::Free);
         Ok(OrderSet { signs: m })
     }
@@ -153,16 +133,15 @@ impl ClockSet for OrderSet {
         ensures same { result ≡ order_calls.within self.now other.now }
         ensures exact { WithinExact self.now other.now result }
     {
-        let mut m = load(self);
-        let high = load(other);
-        within_form(&mut m, &high)
+        let mut m = self.signs;
+        within_form(&mut m, &other.signs)
     }
 
     fn is_empty(&self) -> bool
         ensures same { result ≡ order_calls.empty self.now }
         ensures exact { EmptyExact self.now result }
     {
-        let mut m = load(self);
+        let mut m = self.signs;
         !canonicalize(&mut m)
     }
 }
@@ -187,8 +166,6 @@ impl ClosedForms for OrderSet {
 }
 
 // Two order sets hold the same readings exactly when their closed signs are equal.
-pub fn order_canonical_stands() -> u8
+pub fn order_canonical_stands()
     ensures { Canonical }
-{
-    0
-}
+{}

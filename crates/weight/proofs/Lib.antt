@@ -4,3 +4,4 @@ pub mod Matrix
 pub mod Passes
 pub mod Rows
 pub mod Sizes
+pub mod Chains

@@ -1,11 +1,13 @@
 -- The closing of a list of 49 weights: it is the closed form, or a way from a place to itself sums below neutral.
-use Rattle.std.proofs.Common.{◌≡◌, ℕ, zero, suc, ◌+◌, ◌*◌, ◌/◌, ◌%◌, ◌^◌, ◌<◌, ◌≤◌, Bool, true, false, cond, List, length, get_or, Some, None, Decides, MatchBool, sym, refl, ap, ◌∙◌, ⊎_elim, mul_left_comm, arith}
+use Rattle.std.proofs.Common.{◌≡◌, ℕ, zero, suc, ◌+◌, ◌*◌, ◌/◌, ◌%◌, ◌^◌, ◌<◌, ◌≤◌, Bool, true, false, cond, ◌&&◌, List, length, get_or, Some, None, Decides, MatchBool, sym, refl, ap, ◌∙◌, ⊎_elim, mul_left_comm, arith}
 use Rattle.std.proofs.lemmas.List.FromFn.{fill_by_all, get_or-map-range_with_len, length-map-range_with_len}
 use Rattle.std.proofs.lemmas.List.{get_or-replicate}
 use Rattle.std.proofs.lemmas.Bool.{and_cases, both_ways, cases_Bool, cases_lt, cond-false, cond-true}
 use Rattle.std.proofs.lemmas.Bool.Decides.{Decides-below_and}
+use Rattle.std.specs.List.{list_all, range_with_len}
 use Rattle.weight.specs.Weights.{Laws, Closed, Sound, Way, step, join, ClosedForm, Falling}
 use Rattle.weight.specs.Closing.{cell, passed, one_pass, passes, sound_below, closing, empty_form, Within}
+use Rattle.weight.proofs.Chains.{list_all_last}
 use Rattle.weight.proofs.Passes.{Sofar, lesser_is, lesser_first, sofar_start, sofar_pass, closed_form_is, falling}
 
 module _ {V : Type 0} (leb : V → V → Bool) (plus : V → V → V) (blank : V) where
@@ -34,6 +36,10 @@ empty_cell blank hopeless i j hi hj = get_or-replicate 49 (7 * i + j) hopeless b
 module _ {V : Type 0} (leb : V → V → Bool) (neutral : V) (d : ℕ → ℕ → V) where
   pub sound_decides : Decides (sound_below leb neutral d 7) (Sound leb neutral d)
   sound_decides = Decides-below_and (λ k. leb neutral (d k k)) (λ k. leb neutral (d k k) ≡ true) (sound_below leb neutral d) (λ k. (λ e. e, λ e. e)) refl (λ n. refl) 7
+
+  pub sound_list : (n : ℕ) → list_all (λ k. leb neutral (d k k)) (range_with_len 0 n) ≡ sound_below leb neutral d n
+  sound_list zero = refl
+  sound_list (suc n) = list_all_last (λ k. leb neutral (d k k)) n ∙ ap (λ (b : Bool). leb neutral (d n n) && b) (sound_list n)
 
   pub unsound_place : (n : ℕ) → sound_below leb neutral d n ≡ false → (c : ℕ) × (c < n) × (leb neutral (d c c) ≡ false)
   unsound_place zero e = absurd (both_ways _ e refl)

@@ -1,5 +1,5 @@
 -- The loops over a row and over the rows of one pass.
-use Rattle.std.proofs.Common.{◌≡◌, ℕ, zero, suc, ◌+◌, ◌*◌, ◌<◌, Bool, cond, ◌&&◌, eqb, ltb, ◌≢◌, List, [], ◌∷◌, map, length, get_or, set, sym, ap, ◌∙◌, ⊎_elim, arith}
+use Rattle.std.proofs.Common.{◌≡◌, ℕ, ◌+◌, ◌*◌, ◌<◌, Bool, cond, ◌&&◌, eqb, ltb, ◌≢◌, List, map, length, get_or, set, sym, ap, ◌∙◌, ⊎_elim, arith}
 use Rattle.std.proofs.lemmas.List.{get_or-map, get_or-set_other, get_or-set_same}
 use Rattle.std.proofs.lemmas.Bool.{cases_eq}
 use Rattle.std.proofs.lemmas.Bool.Decides.{nat_tests}
@@ -8,16 +8,6 @@ use Rattle.weight.specs.Closing.{cell, relaxed, passed}
 -- what a read of the slice tells of the values
 pub read_value : {W V : Type 0} (value : W → V) (blank : V) (xs : List W) (p : ℕ) (x : W) → p < length xs → x ≡ get_or xs p x → value x ≡ get_or (map value xs) p blank
 read_value value blank xs p x h e = ap value e ∙ sym (get_or-map value xs p x blank h)
-
--- the list has the values of f from p on
-abbrev pub HasFrom : {V : Type 0} → (ℕ → V) → ℕ → List V → Type 0
-HasFrom f p [] = Unit {0}
-HasFrom f p (x ∷ xs) = (x ≡ f p) × HasFrom f (p + 1) xs
-
-pub has_at : {V : Type 0} (f : ℕ → V) (p : ℕ) (xs : List V) (j : ℕ) (blank : V) → HasFrom f p xs → j < length xs → get_or xs j blank ≡ f (p + j)
-has_at f p [] j blank h less = absurd (omega arith)
-has_at f p (x ∷ xs) zero blank h less = h.0 ∙ ap f (omega arith)
-has_at f p (x ∷ xs) (suc j) blank h less = has_at f (p + 1) xs j blank h.1 (omega arith) ∙ ap f (omega arith)
 
 -- two matrices agree on the seven places
 abbrev pub Agree : {V : Type 0} → (ℕ → ℕ → V) → (ℕ → ℕ → V) → Type 0
@@ -33,9 +23,6 @@ module _ {V : Type 0} (leb : V → V → Bool) (plus : V → V → V) where
   rows_to d k n x y = cond (ltb x n) (passed leb plus d k x y) (d x y)
 
   module _ (old : ℕ → ℕ → V) (row : ℕ → V) (k i : ℕ) (hi : i < 7) where
-    pub row_none : Agree old (row_to old row k i 0)
-    row_none x y hx hy = grind (arith, nat_tests)
-
     -- the place to come is as it was
     pub row_ahead : (d : ℕ → ℕ → V) (j : ℕ) → Agree d (row_to old row k i j) → j < 7 → d i j ≡ old i j
     row_ahead d j inv hj = let e = inv i j hi hj in grind (arith, nat_tests)
@@ -55,9 +42,6 @@ module _ {V : Type 0} (leb : V → V → Bool) (plus : V → V → V) where
     row_all d inv x y hx hy = let e = inv x y hx hy in grind (arith, nat_tests)
 
   module _ (old : ℕ → ℕ → V) (k : ℕ) (hk : k < 7) where
-    pub rows_none : Agree old (rows_to old k 0)
-    rows_none x y hx hy = grind (arith, nat_tests)
-
     -- the row to come is as it was
     pub rows_ahead : (d : ℕ → ℕ → V) (n y : ℕ) → Agree d (rows_to old k n) → n < 7 → y < 7 → d n y ≡ old n y
     rows_ahead d n y inv hn hy = inv n y hn hy ∙ grind (arith, nat_tests)

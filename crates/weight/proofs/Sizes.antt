@@ -1,6 +1,6 @@
 -- Limits with small constants, in a list and in a matrix.
-use Rattle.std.proofs.Common.{◌≡◌, ℕ, zero, suc, ◌+◌, ◌*◌, ◌/◌, ◌%◌, ◌^◌, ◌<◌, ◌≤◌, Bool, true, ◌&&◌, leb, List, [], ◌∷◌, map, length, get_or, drop, sym, refl, ap, ◌∙◌, subst, arith}
-use Rattle.std.proofs.lemmas.List.{at_drop_all, at_drop_more}
+use Rattle.std.proofs.Common.{◌≡◌, ℕ, zero, suc, ◌+◌, ◌*◌, ◌/◌, ◌%◌, ◌^◌, ◌<◌, ◌≤◌, true, ◌&&◌, leb, List, [], ◌∷◌, map, length, get_or, sym, refl, ap, ◌∙◌, subst, arith}
+use Rattle.std.specs.List.{list_all}
 use Rattle.std.proofs.lemmas.Bool.{and_from, and_parts, le-leb, leb-true}
 use Rattle.weight.specs.Limits.{Limit, free}
 use Rattle.weight.specs.Bounds.{all_small, all_within, bound_of, limit_of, limit_size}
@@ -24,14 +24,10 @@ small_is (l ∷ ls) = ap (λ b. leb (limit_size l) 4000000 && b) (small_is ls)
 pub small_within : (xs : List Limit) (n : ℕ) → 4000000 ≤ n → all_small xs ≡ true → Within limit_size free n xs
 small_within xs n h e i j hi hj = omega (arith, within_at 4000000 xs (7 * i + j) (sym (small_is xs) ∙ e))
 
-abbrev bounds_within : ℕ → List Bound → Bool
-bounds_within n bs = all_within n (map limit_of bs)
-
-pub within_next : (n : ℕ) (bs : List Bound) (i : ℕ) (d : Bound) (t : Bool) → i < length bs → t ≡ leb (limit_size (limit_of (get_or bs i d))) n → bounds_within n (drop i bs) ≡ (t && bounds_within n (drop (i + 1) bs))
-within_next n bs i d t h e = at_drop_more (bounds_within n) bs i d h ∙ ap (λ b. b && bounds_within n (drop (i + 1) bs)) (sym e)
-
-pub within_end : (n : ℕ) (bs : List Bound) (i : ℕ) → length bs ≤ i → bounds_within n (drop i bs) ≡ true
-within_end n bs i h = at_drop_all (bounds_within n) bs i h
+-- a test of each bound is one of each limit
+pub list_within : (n : ℕ) (bs : List Bound) → list_all (λ b. leb (limit_size (limit_of b)) n) bs ≡ all_within n (map limit_of bs)
+list_within n [] = refl
+list_within n (b ∷ bs) = ap (λ t. leb (limit_size (limit_of b)) n && t) (list_within n bs)
 
 pub within_all : (n : ℕ) (ls : List Limit) → ((p : ℕ) → p < length ls → limit_size (get_or ls p free) ≤ n) → all_within n ls ≡ true
 within_all n [] all = refl

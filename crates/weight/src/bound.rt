@@ -6,8 +6,8 @@ ghost use Rattle.weight.specs.Limited.{limit_laws, limit_grows};
 use crate::Weight;
 
 // A limit on a difference in one number: twice the constant, plus one for "at most"; the greatest number is no limit.
-// So the order of bounds is the order of their numbers.
-#[derive(Clone, Copy)]
+// So the order of bounds is the order of their numbers. The C interface lends bounds in this form, and a closing of it is fast.
+#[derive(Clone, Copy, PartialEq, Eq, PartialOrd, Ord, Debug)]
 #[repr(C)]
 pub struct Bound {
     pub code: i32,
@@ -44,7 +44,7 @@ impl Bound {
     pub fn is_small(self) -> bool
         ensures { result ≡ at_most (limit_size (limit_of self)) 4000000 }
     {
-        self.is_free() || (-8_000_000 <= self.code && self.code <= 8_000_001)
+        self.is_within(4_000_000)
     }
 
     // whether the constant is at most that number either way
@@ -67,12 +67,7 @@ pub fn all_within(m: &[Bound], most: u32) -> bool
     requires { most ≤ 4000000 }
     ensures { result ≡ all_within most (map limit_of m.now) }
 {
-    for b in m {
-        if !b.is_within(most) {
-            return false;
-        }
-    }
-    true
+    m.iter().all(|b| b.is_within(most))
 }
 
 impl Weight for Bound {
@@ -117,10 +112,10 @@ impl Weight for Bound {
     }
 
     fn lesser_of(self, other: Bound) -> Bound {
-        if other.code < self.code { other } else { self }
+        self.min(other)
     }
 
     fn at_most(self, other: Bound) -> bool {
-        self.code <= other.code
+        self <= other
     }
 }

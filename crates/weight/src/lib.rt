@@ -15,7 +15,8 @@ pub use closing::close;
 pub use order_sign::OrderSign;
 
 // A stored weight stands for a value: an associative sum keeps a total order of the values. The laws speak of values
-// alone, so a weight can be stored in whatever form is fast.
+// alone, so a weight can be stored in whatever form is fast: its order is that of the values, and no bound `Ord` asks one of the
+// stored forms.
 pub trait Weight: Copy {
     ghost Value: { Type 0 };
 

@@ -6,7 +6,7 @@ ghost use Rattle.std.proofs.Common.{rules};
 use crate::Weight;
 
 // What is known of the first reading minus the second: below zero, at most zero, or nothing.
-#[derive(Clone, Copy)]
+#[derive(Clone, Copy, PartialEq, Eq, PartialOrd, Ord, Debug)]
 pub enum OrderSign {
     Below,
     AtMost,
@@ -44,23 +44,17 @@ impl Weight for OrderSign {
 
     fn sum(self, other: OrderSign) -> OrderSign {
         match (self, other) {
-            (OrderSign::Free, _) => OrderSign::Free,
-            (_, OrderSign::Free) => OrderSign::Free,
+            (OrderSign::Free, _) | (_, OrderSign::Free) => OrderSign::Free,
             (OrderSign::AtMost, OrderSign::AtMost) => OrderSign::AtMost,
             _ => OrderSign::Below,
         }
     }
 
     fn lesser_of(self, other: OrderSign) -> OrderSign {
-        if self.at_most(other) { self } else { other }
+        self.min(other)
     }
 
     fn at_most(self, other: OrderSign) -> bool {
-        match (self, other) {
-            (OrderSign::Below, _) => true,
-            (_, OrderSign::Free) => true,
-            (OrderSign::AtMost, OrderSign::AtMost) => true,
-            _ => false,
-        }
+        self <= other
     }
 }

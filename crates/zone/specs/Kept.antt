@@ -1,7 +1,7 @@
 -- Bounds as limits, and small limits as bounds.
 use Rattle.std.specs.Prelude.{◌≡◌, ℕ, ◌+◌, ◌*◌, ◌/◌, ◌%◌, ◌<◌, ◌≤◌, true, leb, List, map, length, get_or, pos, Ok, Err, nat_le, slice_index_or, refl}
 use Rattle.std.proofs.Common.{sym, ◌∙◌, ap, arith}
-use Rattle.std.proofs.lemmas.List.{get_or-map}
+use Rattle.std.proofs.lemmas.List.{get_or-map, length-map}
 use Rattle.std.proofs.lemmas.Bool.{cond_both, cond-true, le-leb, leb-true}
 use Rattle.clockset.specs.Laws.{bound_too_large}
 use Rattle.weight.specs.declared.bound.Bound.{Bound}
@@ -44,6 +44,13 @@ read_room z i j hi hj =
     let b = get_or z.bounds (7 * i + j) (record { code = pos 0 }) in
     let small = cond_both (nat_le (limit_size (limit_of b)) 4000000) (limit_of b) free (λ l. limit_size l ≤ 4194304) (λ e. omega (arith, leb-true (limit_size (limit_of b)) 4000000 e)) (λ e. omega arith) in
     rw (tabled_cell free (λ i j. read_limit (slice_index_or z.bounds (7 * i + j) (record { code = pos 0 }))) i j hi hj) small
+
+-- the bounds of a zone as they are read, one by one
+pub read_list : (z : Zone) → length z.bounds ≡ 49 → map read_limit z.bounds ≡ limit_list z
+read_list z long =
+    let none : Bound = record { code = pos 0 } in
+    tabled_from free (λ i j. read_limit (slice_index_or z.bounds (7 * i + j) none)) (map read_limit z.bounds) (length-map z.bounds read_limit ∙ long)
+    (λ i j hi hj. get_or-map read_limit z.bounds (7 * i + j) none free (omega (arith, long)))
 
 -- a stored bound, by its place in the list
 pub read_at : (z : Zone) (p : ℕ) → p < 49 → read_limit (slice_index_or z.bounds p (record { code = pos 0 })) ≡ slice_index_or (limit_list z) p free

@@ -27,10 +27,8 @@ use clocks::{Gap, Sign};
 use clockset::{ClockSet, ClosedForms};
 use matrix::{canonicalize, cut, cut_form, delay_form, is_good_gap, reset_form, tighten};
 use slip::{Refusal, Slip};
+use std::array;
 use weight::{Bound, Weight, all_small, all_within};
-
-// The largest constant of a closed bound that is kept.
-const MOST_CONSTANT: u32 = 4_000_000;
 
 // From constants up to this size on, and any gaps, no closed bound passes the largest: each of the seven passes of a closing doubles
 // a constant at most.
@@ -56,46 +54,35 @@ fn load(zone: &Zone) -> [Bound; 49]
     ensures same { map limit_of result ≡ limit_list zone.now }
     ensures room { Within limit_size free (2 ^ 22) (map limit_of result) }
 {
-    let mut m = [Bound::free(); 49];
-    for p in 0..49 {
-        m[p] = read(zone.bounds[p]);
-    }
-    m
+    array::from_fn(|p| read(zone.bounds[p]))
 }
 
 // Whether a bound is at most what a stored one reads as. Most are at most the stored number itself.
 fn is_under(b: Bound, stored: Bound) -> bool
     ensures { result ≡ limit_leb (limit_of b) (read_limit stored) }
 {
-    b.at_most(stored) || !stored.is_within(MOST_CONSTANT)
+    b.at_most(stored) || !stored.is_small()
 }
 
-// Whether no bound exceeds that of the zone.
-fn is_beneath(m: &[Bound], zone: &Zone) -> bool
-    requires { length m.now ≡ 49 }
+// Whether no bound exceeds that of the zone. Not `matrix`'s: the other side is read as it is compared, which saves a copy.
+fn is_beneath(m: &[Bound; 49], zone: &Zone) -> bool
     ensures { result ≡ beneath_all limit_leb limit_plus (up_to (pos 0)) free (under (pos 0)) (map limit_of m.now) (limit_list zone.now) }
 {
-    for p in 0..49 {
-        if !is_under(m[p], zone.bounds[p]) {
-            return false;
-        }
-    }
-    true
+    m.iter()
+        .zip(&zone.bounds)
+        .all(|(b, stored)| is_under(*b, *stored))
 }
 
-fn keep(m: [Bound; 49]) -> Result<Zone, Slip>
-    ensures { result ≡ kept_zone (map limit_of m) }
+fn keep(bounds: [Bound; 49]) -> Result<Zone, Slip>
+    ensures { result ≡ kept_zone (map limit_of bounds) }
 {
-    if all_small(&m) {
-        Ok(Zone { bounds: m })
-    } else {
-        Err(Slip {
-            refusal: Refusal::BoundTooLarge,
-            place: 0,
-        })
+    if !all_small(&bounds) {
+        return Err(Refusal::BoundTooLarge.at(0));
     }
+    Ok(Zone { bounds })
 }
 
+// A function and no `From`: neither type is of this crate, and the constant has to be small.
 fn bound_of(gap: Gap) -> Bound
     requires { unsigned_abs gap.constant ≤ 9999 }
     ensures { limit_of result ≡ gap_limit gap }
@@ -106,29 +93,18 @@ fn bound_of(gap: Gap) -> Bound
     }
 }
 
-fn refused() -> Slip
-    ensures { result ≡ bad_argument }
-{
-    Slip {
-        refusal: Refusal::BadArgument,
-        place: 0,
-    }
-}
-
 // One more bound by a gap, and nothing closed yet.
-fn cut_raw(m: &mut [Bound], gap: Gap) -> Result<(), Slip>
-    requires { length m.old ≡ 49 }
+fn cut_raw(m: &mut [Bound; 49], gap: Gap) -> Result<(), Slip>
     ensures { raw_cut gap (map limit_of m.old) ≡ (result ⨾ λ _. Ok (map limit_of m.new)) }
 {
     if !is_good_gap(gap) {
-        return Err(refused());
+        return Err(Refusal::BadArgument.at(0));
     }
     cut(m, gap.first as usize, gap.second as usize, bound_of(gap));
     Ok(())
 }
 
-fn cut_all_raw(m: &mut [Bound], gaps: &[Gap]) -> Result<(), Slip>
-    requires { length m.old ≡ 49 }
+fn cut_all_raw(m: &mut [Bound; 49], gaps: &[Gap]) -> Result<(), Slip>
     ensures { raw_cuts gaps.now (map limit_of m.old) ≡ (result ⨾ λ _. Ok (map limit_of m.new)) }
 {
     for gap in gaps {
@@ -137,17 +113,8 @@ fn cut_all_raw(m: &mut [Bound], gaps: &[Gap]) -> Result<(), Slip>
     Ok(())
 }
 
-// Gap by gap, as bounds that are large have to be: any of the cuts may be refused.
-fn cut_each(zone: &Zone, gaps: &[Gap]) -> Result<Zone, Slip>
-    ensures { result ≡ cut_all zone_calls gaps.now zone.now }
-{
-    let mut set = *zone;
-    for gap in gaps {
-        set = set.gap(*gap)?;
-    }
-    Ok(set)
-}
-
+// A zone and an order set call the same functions of `matrix`. What is left differs: a zone reads each bound anew, refuses a large
+// one, and closes once for many gaps.
 impl ClockSet for Zone {
     ghost holds = { zone_holds };
 
@@ -196,7 +163,7 @@ impl ClockSet for Zone {
         ensures exact { GapStands self.now gap result }
     {
         if !is_good_gap(gap) {
-            return Err(refused());
+            return Err(Refusal::BadArgument.at(0));
         }
         let mut m = load(self);
         cut_form(
@@ -213,12 +180,10 @@ impl ClockSet for Zone {
         ensures exact { ResetStands self.now mask result }
     {
         if mask >= 64 {
-            return Err(refused());
+            return Err(Refusal::BadArgument.at(0));
         }
         let mut m = load(self);
-        let mut to = m;
-        reset_form(&mut m, mask, &mut to);
-        keep(to)
+        keep(reset_form(&mut m, mask))
     }
 
     fn delay(&self) -> Result<Zone, Slip>
@@ -250,11 +215,13 @@ impl ClockSet for Zone {
         !canonicalize(&mut m)
     }
 
-    // Modest bounds take all gaps before they are closed, once.
+    // Modest bounds take all gaps before they are closed, once. Larger ones are cut gap by gap, since any of the cuts may be refused.
     fn cut(&self, gaps: &[Gap]) -> Result<Zone, Slip> {
         let mut m = load(self);
         if gaps.is_empty() || !all_within(&m, MODEST_CONSTANT) {
-            return cut_each(self, gaps);
+            // The trait's own body again: an impl with a body of its own cannot call it, and the check does not cover a generic
+            // function that both call.
+            return gaps.iter().try_fold(*self, |set, gap| set.gap(*gap));
         }
         cut_all_raw(&mut m, gaps)?;
         canonicalize(&mut m);
@@ -291,15 +258,11 @@ impl ClosedForms for Zone {
 }
 
 // Zones compute: strict bounds leave readings at finer scales, and none where nothing is left.
-pub fn zone_cases_stand() -> u8
+pub fn zone_cases_stand()
     ensures { CasesStand }
-{
-    0
-}
+{}
 
 // Two zones hold the same readings exactly when their closed bounds are equal.
-pub fn zone_canonical_stands() -> u8
+pub fn zone_canonical_stands()
     ensures { Canonical }
-{
-    0
-}
+{}

@@ -1,10 +1,14 @@
 -- Lists of 49 weights and the matrices that they stand for.
-use Rattle.std.proofs.Common.{◌≡◌, ℕ, zero, suc, ◌+◌, ◌*◌, ◌/◌, ◌%◌, ◌<◌, ◌≤◌, Bool, true, false, List, length, get_or, sym, refl, ap, ◌∙◌, ⊎_elim, arith}
+use Rattle.std.proofs.Common.{◌≡◌, ℕ, zero, suc, ◌+◌, ◌*◌, ◌/◌, ◌%◌, ◌<◌, ◌≤◌, Bool, true, ◌&&◌, List, [], ◌∷◌, map, length, get_or, sym, refl, ap, ◌∙◌, ⊎_elim, arith}
 use Rattle.std.proofs.lemmas.List.FromFn.{fill_by_all, get_or-map-range_with_len, length-map-range_with_len}
-use Rattle.std.proofs.lemmas.Bool.{and_parts, and_from, both_ways, cases_Bool, cases_lt}
+use Rattle.std.proofs.lemmas.List.Folds.{list_all-map}
+use Rattle.std.proofs.lemmas.Slice.Zip.{get_or-zip, length-zip}
+use Rattle.std.specs.List.{list_all, range_with_len, zip}
+use Rattle.std.proofs.lemmas.Bool.{and_parts, and_from, cases_lt}
 use Rattle.std.proofs.lemmas.List.{length-replicate}
 use Rattle.weight.specs.Closing.{cell, empty_form}
-use Rattle.zone_theory.specs.Sets.{tabled, every_below}
+use Rattle.zone_theory.specs.Sets.{tabled, every_below, beneath_all}
+use Rattle.weight.proofs.Chains.{list_all_last}
 
 pub tabled_cell : {V : Type 0} (blank : V) (d : ℕ → ℕ → V) (i j : ℕ) → i < 7 → j < 7 → cell blank (tabled d) i j ≡ d i j
 unfolding tabled
@@ -41,8 +45,30 @@ pub every_from : (test : ℕ → Bool) (n : ℕ) → ((p : ℕ) → p < n → te
 every_from test zero all = refl
 every_from test (suc n) all = and_from (test n) (every_below test n) (all n (omega arith)) (every_from test n (λ p h. all p (omega arith)))
 
-pub every_stop : (test : ℕ → Bool) (n p : ℕ) → p < n → test p ≡ false → every_below test n ≡ false
-every_stop test n p h fails = ⊎_elim (λ t. absurd (both_ways (test p) fails (every_at test n p h t))) (λ e. e) (cases_Bool (every_below test n))
+-- a chain over two lists of 49 tests them place by place
+pub every_list : (test : ℕ → Bool) (n : ℕ) → list_all test (range_with_len 0 n) ≡ every_below test n
+every_list test zero = refl
+every_list test (suc n) = list_all_last test n ∙ ap (λ (b : Bool). test n && b) (every_list test n)
+
+pub zip_read : {A B C D : Type 0} (f : C → D → Bool) (g : A → C) (h : B → D) (xs : List A) (ys : List B) → list_all (λ p. f (g p.0) (h p.1)) (zip xs ys) ≡ list_all (λ p. f p.0 p.1) (zip (map g xs) (map h ys))
+zip_read f g h [] ys = refl
+zip_read f g h (x ∷ xs) [] = refl
+zip_read f g h (x ∷ xs) (y ∷ ys) = ap (λ (b : Bool). f (g x) (h y) && b) (zip_read f g h xs ys)
+
+module _ {V : Type 0} (leb : V → V → Bool) (plus : V → V → V) (neutral blank hopeless : V) where
+  pub zip_beneath : (xs ys : List V) → length xs ≡ 49 → length ys ≡ 49 → list_all (λ p. leb p.0 p.1) (zip xs ys) ≡ beneath_all leb plus neutral blank hopeless xs ys
+  unfolding beneath_all
+  zip_beneath xs ys p q =
+      let at : ℕ → V × V = λ n. (cell blank xs (n / 7) (n % 7), cell blank ys (n / 7) (n % 7)) in
+      let long : length (zip xs ys) ≡ 49 = length-zip xs ys ∙ rw (p, q) refl in
+      let pairs : zip xs ys ≡ map at (range_with_len 0 49)
+      = fill_by_all at (zip xs ys) 49 (blank, blank) long
+      (λ n h.
+      let whole : 7 * (n / 7) + n % 7 ≡ n = omega arith in
+      get_or-zip xs ys n (blank, blank) (omega arith) (omega arith) ∙ rw whole refl) in
+      ap (list_all (λ (r : V × V). leb r.0 r.1)) pairs
+      ∙ list_all-map (λ (r : V × V). leb r.0 r.1) at (range_with_len 0 49)
+      ∙ every_list (λ n. leb (at n).0 (at n).1) 49
 
 pub empty_length : {V : Type 0} (hopeless : V) → length (empty_form hopeless) ≡ 49
 unfolding empty_form

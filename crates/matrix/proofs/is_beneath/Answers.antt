@@ -1,34 +1,16 @@
-use Rattle.std.proofs.Common.{◌≡◌, ℕ, ◌/◌, ◌%◌, true, false, map, sym, add-one, arith}
-use Rattle.std.proofs.lemmas.Bool.{and_from}
-use Rattle.weight.specs.Closing.{cell}
-use Rattle.weight.proofs.Rows.{read_value}
-use Rattle.zone_theory.specs.Sets.{beneath_all}
-use Rattle.zone_theory.proofs.Tables.{every_stop}
-use Rattle.matrix.proofs.Loops.{test_at}
+use Rattle.std.proofs.Common.{map, rules, ◌∙◌, arith}
+use Rattle.std.proofs.lemmas.List.{length-map}
+use Rattle.std.proofs.lemmas.Iterator.{YieldsList-from_slice, YieldsList-from_zip}
+use Rattle.std.proofs.lemmas.Iterator.Search.{all_from_yields_List}
+use Rattle.zone_theory.proofs.Tables.{zip_read, zip_beneath}
 use Rattle.matrix.proofs.is_beneath.Goals as goal
-
-pub loop-p-preserved : goal.loop-p-preserved
-loop-p-preserved g c =
-    let w = g.W.Weight in
-    let p = c.loop-p.p in
-    let a = read_value w.value w.unbounded c.args.low.now p c.index-low-p.result (omega arith) c.index-low-p.is in
-    let b = read_value w.value w.unbounded c.args.high.now p c.index-high-p.result (omega arith) c.index-high-p.is in
-    rw add-one
-    (and_from _ _ (test_at w.leb w.unbounded (map w.value c.args.low.now) (map w.value c.args.high.now) p _ _ true a b (sym c.if-not-at_most.ensures)) c.loop-p.invariant)
-
-pub returns-then-not-at_most : goal.returns-then-not-at_most
-unfolding beneath_all
-returns-then-not-at_most g c =
-    let w = g.W.Weight in
-    let p = c.loop-p.p in
-    let low = map w.value c.args.low.now in
-    let high = map w.value c.args.high.now in
-    let a = read_value w.value w.unbounded c.args.low.now p c.index-low-p.result (omega arith) c.index-low-p.is in
-    let b = read_value w.value w.unbounded c.args.high.now p c.index-high-p.result (omega arith) c.index-high-p.is in
-    sym
-    (every_stop (λ (q : ℕ). w.leb (cell w.unbounded low (q / 7) (q % 7)) (cell w.unbounded high (q / 7) (q % 7))) 49 p c.loop-p-test.true
-    (test_at w.leb w.unbounded low high p _ _ false a b (sym c.if-not-at_most.ensures)))
+use borrow.Author.Tests.{tests}
 
 pub returns : goal.returns
-unfolding beneath_all
-returns g c = let end : c.loop-p.p ≡ 49 = omega arith in sym (rw end at c.loop-p.invariant)
+returns g c =
+    let w = g.W.Weight in
+    let low = c.args.low.now in
+    let high = c.args.high.now in
+    all_from_yields_List (λ p. w.leb (w.value p.0) (w.value p.1)) c.all.new.self _ c.all.result c.all.ensures.ran (YieldsList-from_zip (YieldsList-from_slice low cc) (YieldsList-from_slice high cc)) (λ x b q k. search (rules, tests))
+    ∙ zip_read w.leb w.value w.value low high
+    ∙ zip_beneath w.leb w.plus w.neutral w.unbounded w.hopeless (map w.value low) (map w.value high) (simp length-map (omega arith)) (simp length-map (omega arith))

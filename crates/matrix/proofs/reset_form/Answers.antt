@@ -11,6 +11,6 @@ returns g c =
     let o = c.canonicalize.ensures in
     record {
       made =
-          made_reset w.leb w.plus w.neutral w.unbounded w.hopeless (in_mask c.args.mask) xs ys (map w.value c.reset.new.to) c.canonicalize.result o.computed o.emptied c.reset.ensures;
+          made_reset w.leb w.plus w.neutral w.unbounded w.hopeless (in_mask c.args.mask) xs ys (map w.value c.reset.result) c.canonicalize.result o.computed o.emptied c.reset.ensures;
       closed = formed_is w.leb w.plus w.neutral w.unbounded w.hopeless xs ys c.canonicalize.result o.computed o.emptied;
     }

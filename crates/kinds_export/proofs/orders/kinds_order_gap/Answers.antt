@@ -8,6 +8,6 @@ pub returns : goal.returns
 returns c =
     let a = c.args.set.now in
     let g = gap_of c.args.first c.args.second c.args.strict in
-    let by-set = ap (λ s. order_gap s c.gap_of.result) c.set_of.ensures in
+    let by-set = ap (λ s. order_gap s c.gap_of.result) c.from.ensures in
     let by-gap = ap (order_gap (set_of a)) c.gap_of.ensures ∙ ap (λ k. order_gap (set_of a) (g k)) (to_z-of_z c.ranges.constant) in
-    c.put_codes.ensures ∙ ap (told codes_of a) (c.gap-result.ensures.same ∙ by-set ∙ by-gap)
+    c.put.ensures codes_of (λ s t h. h) ∙ ap (told codes_of a) (c.gap-result.ensures.same ∙ by-set ∙ by-gap)

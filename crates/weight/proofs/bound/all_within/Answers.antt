@@ -1,14 +1,12 @@
-use Rattle.std.proofs.Common.{true, false, pos, sym, ◌∙◌}
-use Rattle.weight.proofs.Sizes.{within_next, within_end}
+use Rattle.std.proofs.Common.{leb, rules, ◌∙◌}
+use Rattle.std.proofs.lemmas.Iterator.{YieldsList-from_slice}
+use Rattle.std.proofs.lemmas.Iterator.Search.{all_from_yields_List}
+use Rattle.weight.specs.Bounds.{limit_of, limit_size}
+use Rattle.weight.proofs.Sizes.{list_within}
 use Rattle.weight.proofs.bound.all_within.Goals as goal
-
-pub returns-then-not-is_within : goal.returns-then-not-is_within
-returns-then-not-is_within c =
-    sym (within_next c.args.most c.args.m.now c.loop-b.b-index (record { code = pos 0 }) false c.loop-b-test.true c.if-not-is_within.ensures) ∙ c.loop-b.invariant
-
-pub loop-b-preserved : goal.loop-b-preserved
-loop-b-preserved c =
-    sym (within_next c.args.most c.args.m.now c.loop-b.b-index (record { code = pos 0 }) true c.loop-b-test.true c.if-not-is_within.ensures) ∙ c.loop-b.invariant
+use borrow.Author.Tests.{tests}
 
 pub returns : goal.returns
-returns c = sym (within_end c.args.most c.args.m.now c.loop-b.b-index c.loop-b-test.false) ∙ c.loop-b.invariant
+returns c =
+    all_from_yields_List (λ b. leb (limit_size (limit_of b)) c.args.most) _ _ c.all.result c.all.ensures.ran (YieldsList-from_slice c.args.m.now cc) (λ x b q k. search (rules, tests))
+    ∙ list_within c.args.most c.args.m.now
