@@ -1,4 +1,5 @@
 pub mod Counts
+pub mod Faults
 pub mod Rows
 pub mod Steps
 pub mod Sweeps

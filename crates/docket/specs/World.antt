@@ -22,6 +22,10 @@ fresh_docket = record { opening = open_mark; trail = record { position = None } 
 abbrev pub rows_world : {S : Type 0} → List (Entry S) → ℕ → World S
 rows_world rows n = world_of rows n [] fresh_docket
 
+-- entries alone
+abbrev pub entries_world : {S : Type 0} → Entries S → World S
+entries_world table = rows_world table.rows.now table.live
+
 -- what the trail makes of a call, with the opening mark as it was; the tables have no part in it
 abbrev pub trailed : Outcome → Docket → Result (Unit {0}) Slip × Docket
 trailed o d = (o.0, record { opening = d.opening; trail = o.1 })

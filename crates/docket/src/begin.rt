@@ -10,6 +10,7 @@ use crate::marks::OPEN;
 use model::accepted::Model;
 use slip::Slip;
 use trail::position::Trail;
+use wire::step::Step;
 
 impl Docket {
     // An open opening duty, and no trail.
@@ -48,5 +49,12 @@ impl Docket {
         ensures { (result, self.new) ≡ trailed (stepped (plan_of model.now) (Finish k) self.old.trail) self.old }
     {
         self.trail.finish(model, k)
+    }
+
+    // Makes a step of a trail file on the trail.
+    pub fn step(&mut self, model: &Model, step: Step) -> Result<(), Slip>
+        ensures { (result, self.new) ≡ trailed (stepped (plan_of model.now) step self.old.trail) self.old }
+    {
+        self.trail.step(model, step)
     }
 }

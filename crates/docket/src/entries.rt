@@ -7,7 +7,8 @@ use docket_theory::Entry;
 // The most entries that are ever live.
 pub const MOST_ENTRIES: usize = 256;
 
-// A table of the caller's, of which the first `live` rows are entries.
+// A table of the caller's, of which the first `live` rows are entries: a lent slice and a count, since the docket has no memory of its own.
+// The marks are lent beside it and stand in no struct with it: settle and sweep only read the entries, and verdict reads both, so one struct would ask for more than they need.
 #[derive(Drop)]
 pub struct Entries<'a, S> {
     pub rows: &'a mut [Entry<S>],
@@ -24,14 +25,17 @@ impl<'a, S> Entries<'a, S> {
     }
 }
 
-// The live entry of that number.
-pub(crate) fn row<S: Copy>(rows: &[Entry<S>], live: u16, i: usize) -> Option<Entry<S>>
-    ensures { result ≡ row_in rows.now live i }
-{
-    if i < live as usize && i < rows.len() {
-        Some(rows[i])
-    } else {
-        None
+impl<'a, S: Copy> Entries<'a, S> {
+    // The live entry of that number.
+    pub(crate) fn row(&self, i: usize) -> Option<Entry<S>>
+        ensures { result ≡ row_in self.now.rows.now self.now.live i }
+    {
+        let rows = &*self.rows;
+        if i < self.live as usize {
+            rows.get(i).copied()
+        } else {
+            None
+        }
     }
 }
 

@@ -5,43 +5,34 @@ ghost use Rattle.docket_theory.specs.Docket.{final_position, final_row, none_fin
 ghost use Rattle.docket_theory.specs.Log.{Log, Logged};
 ghost use Rattle.docket_theory.specs.Promise.{Promise};
 ghost use Rattle.docket_theory.specs.Worlds.{row_in};
-ghost use Rattle.docket.specs.World.{world, rows_world};
+ghost use Rattle.docket.specs.World.{world, entries_world};
 
 use crate::docket::Docket;
-use crate::entries::{Entries, row};
+use crate::entries::Entries;
 use clockset::ClockSet;
-use docket_theory::{Entry, Verdict};
+use docket_theory::Verdict;
 use model::accepted::Model;
 use trail::position::Position;
 
 fn final_position(model: &Model, position: Option<Position>) -> bool
     ensures { result ≡ final_position (plan_of model.now) position }
 {
-    match position {
-        Some(p) => model.cell(p.cell).last,
-        None => false,
-    }
+    position.is_some_and(|p| model.cell(p.cell).last)
 }
 
-fn final_row<S: Copy>(model: &Model, rows: &[Entry<S>], live: u16, i: u16) -> bool
-    ensures { result ≡ final_row (plan_of model.now) (row_in rows.now live i) }
-{
-    if let Some(e) = row(rows, live, i as usize) {
-        model.cell(e.cell as usize).last
-    } else {
-        false
+impl<'a, S: Copy> Entries<'a, S> {
+    fn final_row(&self, model: &Model, i: u16) -> bool
+        ensures { result ≡ final_row (plan_of model.now) (row_in self.now.rows.now self.now.live i) }
+    {
+        self.row(i as usize)
+            .is_some_and(|e| model.cell(e.cell as usize).last)
     }
-}
 
-fn none_final<S: Copy>(model: &Model, rows: &[Entry<S>], live: u16) -> bool
-    ensures { result ≡ none_final (plan_of model.now) (rows_world rows.now live) }
-{
-    for i in 0..live {
-        if final_row(model, rows, live, i) {
-            return false;
-        }
+    fn none_final(&self, model: &Model) -> bool
+        ensures { result ≡ none_final (plan_of model.now) (entries_world self.now) }
+    {
+        (0..self.live).all(|i| !self.final_row(model, i))
     }
-    true
 }
 
 impl Docket {
@@ -52,14 +43,13 @@ impl Docket {
         if final_position(model, self.trail.position) {
             return Verdict::Reached;
         }
-        if self.open_duties(model, entries.rows, entries.live, marks) == 0
-            && none_final(model, entries.rows, entries.live)
-        {
+        if self.open_duties(model, entries, marks) == 0 && entries.none_final(model) {
             Verdict::Shut
         } else {
             Verdict::Undecided
         }
     }
+
     // What the docket says of the model. Whatever calls led here, the docket keeps its promise.
     pub fn verdict<S: ClockSet>(
         &self,

@@ -3,7 +3,8 @@ ghost use Rattle.std.specs.Prelude.{◌≡◌, map, slice_index_or, slice_set};
 ghost use Rattle.docket_theory.specs.Docket.{entry_opened, forget};
 ghost use Rattle.docket_theory.specs.Worlds.{open_mark};
 
-// The mark of a duty that is not settled; it also names the opening duty.
+// The mark of a duty that is not settled; it also names the opening duty, as callers number it.
+// Marks are numbers and no enum, as they stand in a table of the caller's.
 pub const OPEN: u16 = 65_535;
 
 // The mark of a duty whose image is empty.
@@ -15,11 +16,7 @@ pub const STEPS_PER_ENTRY: usize = 16;
 pub(crate) fn mark_at(marks: &[u16], place: usize) -> u16
     ensures { result ≡ slice_index_or marks.now place open_mark }
 {
-    if place < marks.len() {
-        marks[place]
-    } else {
-        OPEN
-    }
+    marks.get(place).copied().unwrap_or(OPEN)
 }
 
 pub(crate) fn put_mark(marks: &mut [u16], place: usize, mark: u16)
@@ -30,7 +27,7 @@ pub(crate) fn put_mark(marks: &mut [u16], place: usize, mark: u16)
     }
 }
 
-// Opens the marks of entry i.
+// Opens the marks of entry i. One place after another, since the table may end among them.
 pub(crate) fn open_entry(marks: &mut [u16], i: u16)
     ensures { marks.new ≡ entry_opened marks.old i }
 {

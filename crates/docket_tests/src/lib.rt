@@ -27,48 +27,35 @@ mod tests {
         0, 3, 0, 0, 0, 32, 1, 0, 65, 66, 0, 0, 0, 2, 4, 0, 1, 0, 80, 1, 0, 2,
     ];
 
-    fn slip(refusal: Refusal, place: usize) -> Slip {
-        Slip { refusal, place }
-    }
-
     fn plan(heap: Global, bytes: &[u8]) -> Result<Model, Fail> {
-        match read_model(heap, bytes) {
-            Ok(model) => Ok(model),
-            Err(_) => Err(Fail::new("refused")),
-        }
+        read_model(heap, bytes).map_err(|_| Fail::new("refused"))
     }
 
     // A table of n rows.
     fn table<S: ClockSet>(heap: Global, n: usize) -> Result<Vec<Entry<S>>, Fail> {
+        let entry = Entry {
+            cell: 0,
+            set: S::all(),
+        };
         let mut rows = Vec::new(heap);
-        for _k in 0..n {
-            rows.push(Entry {
-                cell: 0,
-                set: S::all(),
-            })?;
-        }
+        rows.resize(n, entry)?;
         Ok(rows)
     }
 
     fn blank_marks(heap: Global, n: usize) -> Result<Vec<u16>, Fail> {
-        let mut marks = Vec::new(heap);
-        for _k in 0..n {
-            marks.push(7)?;
-        }
+        let marks = vec![in heap; 7; n]?;
         Ok(marks)
     }
 
     // All readings with clock 1 below zero: none.
     fn nothing<S: ClockSet>() -> Result<S, Fail> {
-        match S::all().gap(Gap {
+        let below = Gap {
             first: 1,
             second: 0,
             sign: Sign::Below,
             constant: 0,
-        }) {
-            Ok(set) => Ok(set),
-            Err(_) => Err(Fail::new("refused")),
-        }
+        };
+        S::all().gap(below).map_err(|_| Fail::new("refused"))
     }
 
     fn lodging<S: ClockSet>(rt: &impl Abort, heap: Global) -> Result<(), Fail> {
@@ -80,15 +67,15 @@ mod tests {
         let empty = nothing::<S>()?;
         assert_eq!(rt;
             docket.strike(&mut entries, &mut marks),
-            Err(slip(Refusal::Unknown, 0))
+            Err(Refusal::Unknown.at(0))
         );
         assert_eq!(rt;
             docket.lodge(&model, &mut entries, &mut marks, 3, &empty),
-            Err(slip(Refusal::Unknown, 0))
+            Err(Refusal::Unknown.at(0))
         );
         assert_eq!(rt;
             docket.lodge(&model, &mut entries, &mut marks, 2, &empty),
-            Err(slip(Refusal::EmptySet, 0))
+            Err(Refusal::EmptySet.at(0))
         );
         assert_eq!(rt;
             docket.lodge(&model, &mut entries, &mut marks, 2, &S::all()),
@@ -96,7 +83,7 @@ mod tests {
         );
         assert_eq!(rt;
             docket.lodge(&model, &mut entries, &mut marks, 3, &empty),
-            Err(slip(Refusal::DocketFull, 1))
+            Err(Refusal::DocketFull.at(1))
         );
         assert_eq!(rt; marks.first().copied(), Some(65535));
         assert_eq!(rt; docket.strike(&mut entries, &mut marks), Ok(()));
@@ -113,15 +100,15 @@ mod tests {
         let mut docket = Docket::new();
         assert_eq!(rt;
             docket.settle(&model, &entries, &mut marks, 65535, 1, None),
-            Err(slip(Refusal::Unknown, 65535))
+            Err(Refusal::Unknown.at(65535))
         );
         assert_eq!(rt;
             docket.settle(&model, &entries, &mut marks, 65535, 0, None),
-            Err(slip(Refusal::NotHeld, 65535))
+            Err(Refusal::NotHeld.at(65535))
         );
         assert_eq!(rt;
             docket.settle(&model, &entries, &mut marks, 65535, 0, Some(0)),
-            Err(slip(Refusal::Unknown, 65535))
+            Err(Refusal::Unknown.at(65535))
         );
         assert_eq!(rt;
             docket.lodge(&model, &mut entries, &mut marks, 1, &S::all()),
@@ -129,7 +116,7 @@ mod tests {
         );
         assert_eq!(rt;
             docket.settle(&model, &entries, &mut marks, 65535, 0, Some(0)),
-            Err(slip(Refusal::OtherCell, 65535))
+            Err(Refusal::OtherCell.at(65535))
         );
         assert_eq!(rt;
             docket.lodge(&model, &mut entries, &mut marks, 0, &S::all()),
@@ -160,11 +147,11 @@ mod tests {
         );
         assert_eq!(rt;
             docket.settle(&model, &entries, &mut marks, 0, 2, Some(0)),
-            Err(slip(Refusal::Unknown, 0))
+            Err(Refusal::Unknown.at(0))
         );
         assert_eq!(rt;
             docket.settle(&model, &entries, &mut marks, 0, 1, None),
-            Err(slip(Refusal::NotHeld, 0))
+            Err(Refusal::NotHeld.at(0))
         );
         assert_eq!(rt;
             docket.settle(&model, &entries, &mut marks, 0, 1, Some(1)),
@@ -187,15 +174,13 @@ mod tests {
         let mut marks = blank_marks(heap, 32)?;
         let mut entries = Entries::new(&mut rows);
         let mut docket = Docket::new();
-        let low = match S::all().gap(Gap {
+        let at_most_one = Gap {
             first: 1,
             second: 0,
             sign: Sign::AtMost,
             constant: 1,
-        }) {
-            Ok(set) => set,
-            Err(_) => return Err(Fail::new("refused")),
         };
+        let low = S::all().gap(at_most_one).map_err(|_| Fail::new("refused"))?;
         assert_eq!(rt;
             docket.lodge(&model, &mut entries, &mut marks, 0, &S::all()),
             Ok(0)
@@ -276,7 +261,7 @@ mod tests {
         );
         assert_eq!(rt;
             docket.settle(&model, &entries, &mut marks, 0, 0, Some(0)),
-            Err(slip(Refusal::BoundTooLarge, 0))
+            Err(Refusal::BoundTooLarge.at(0))
         );
         Ok(())
     }
@@ -298,7 +283,7 @@ mod tests {
         }
         assert_eq!(rt;
             docket.lodge(&model, &mut entries, &mut marks, 0, &Zone::all()),
-            Err(slip(Refusal::DocketFull, 256))
+            Err(Refusal::DocketFull.at(256))
         );
         Ok(())
     }

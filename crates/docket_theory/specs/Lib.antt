@@ -3,3 +3,4 @@ pub mod Images
 pub mod Log
 pub mod Promise
 pub mod Worlds
+pub mod Words

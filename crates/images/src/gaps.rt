@@ -1,7 +1,7 @@
 // A cell's invariant as gaps, by clock, the low end first.
 ghost use Rattle.std.specs.Prelude.{◌≡◌, [], ◌++◌, take};
 ghost use Rattle.std.specs.Option.{option_map};
-ghost use Rattle.docket_theory.specs.Images.{sign_of, low_gap, high_gap};
+ghost use Rattle.docket_theory.specs.Images.{low_gap, high_gap};
 ghost use Rattle.images.specs.Gaps.{gathered, listed, gaps_to};
 
 use crate::gap_list::GapList;
@@ -24,6 +24,12 @@ impl GapList {
         }
     }
 
+    pub fn gaps(&self) -> &[Gap]
+        ensures { result.now ≡ gathered self.now }
+    {
+        &self.list[..self.count]
+    }
+
     // One more gap, if there is one.
     fn push(&mut self, gap: Option<Gap>)
         ensures { gathered self.new ≡ take 12 (gathered self.old ++ listed gap) }
@@ -38,38 +44,26 @@ impl GapList {
     }
 }
 
-fn sign_of(end: End) -> Sign
-    ensures { result ≡ sign_of end }
-{
-    if end.open { Sign::Below } else { Sign::AtMost }
-}
-
 fn low_gap(clock: u8, low: Option<End>) -> Option<Gap>
     ensures { result ≡ option_map (low_gap clock) low }
 {
-    match low {
-        None => None,
-        Some(end) => Some(Gap {
-            first: 0,
-            second: clock,
-            sign: sign_of(end),
-            constant: -(end.units as i32),
-        }),
-    }
+    low.map(|end| Gap {
+        first: 0,
+        second: clock,
+        sign: Sign::strict(end.open),
+        constant: -(end.units as i32),
+    })
 }
 
 fn high_gap(clock: u8, high: Option<End>) -> Option<Gap>
     ensures { result ≡ option_map (high_gap clock) high }
 {
-    match high {
-        None => None,
-        Some(end) => Some(Gap {
-            first: clock,
-            second: 0,
-            sign: sign_of(end),
-            constant: end.units as i32,
-        }),
-    }
+    high.map(|end| Gap {
+        first: clock,
+        second: 0,
+        sign: Sign::strict(end.open),
+        constant: end.units as i32,
+    })
 }
 
 // The gaps of a cell's invariant.
@@ -77,10 +71,10 @@ pub(crate) fn gaps_of(cell: &Cell) -> GapList
     ensures { gathered result ≡ gaps_to cell.now 6 }
 {
     let mut gaps = GapList::none();
-    for n in 0..6 {
-        let ends = cell.ends[n];
-        gaps.push(low_gap((n + 1) as u8, ends.low));
-        gaps.push(high_gap((n + 1) as u8, ends.high));
+    for (n, ends) in cell.ends.iter().enumerate() {
+        let clock = (n + 1) as u8;
+        gaps.push(low_gap(clock, ends.low));
+        gaps.push(high_gap(clock, ends.high));
     }
     gaps
 }

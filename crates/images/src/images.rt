@@ -20,7 +20,7 @@ fn cut_by<S: ClockSet>(a: &S, cell: &Cell) -> Result<S, Slip>
     ensures { result ≡ cut_by S.calls cell.now a.now }
 {
     let gaps = gaps_of(cell);
-    a.cut(&gaps.list[..gaps.count])
+    a.cut(gaps.gaps())
 }
 
 // The closed form of these readings.
@@ -28,7 +28,7 @@ fn cut_closed_by<S: ClosedForms>(a: &S, cell: &Cell) -> Result<S, Slip>
     ensures { result ≡ closed_form S.closings (cut_by S.calls cell.now a.now) }
 {
     let gaps = gaps_of(cell);
-    a.cut_closed(&gaps.list[..gaps.count])
+    a.cut_closed(gaps.gaps())
 }
 
 // The upper face by event k, counted from 1, of cell c.
@@ -36,12 +36,8 @@ fn upper_face(model: &Model, c: usize, k: u8) -> usize
     ensures { result ≡ face (plan_of model.now).cells true c (k - 1) }
 {
     let cell = model.cell(c);
-    let index = k.saturating_sub(1) as usize;
-    if index < 4 {
-        cell.events[index].upper as usize
-    } else {
-        0
-    }
+    let event = cell.events.get(k.saturating_sub(1) as usize);
+    event.map_or(0, |event| event.upper as usize)
 }
 
 // The cell that a step out of cell c leads to.

@@ -9,5 +9,5 @@ returns g c =
     let k = g.S.ClockSet.calls in
     let f = g.S.ClosedForms.closings in
     c.cut_closed.ensures
-    ∙ ap (λ gs. closed_form f (cut_all k gs c.args.a.now)) c.gaps_of-gaps.ensures
+    ∙ ap (λ gs. closed_form f (cut_all k gs c.args.a.now)) (c.gaps.ensures ∙ c.gaps_of-gaps.ensures)
     ∙ ap (closed_form f) (cut_gaps k c.args.cell.now 6 c.args.a.now)

@@ -1,6 +1,6 @@
 use Rattle.std.proofs.Common.{◌≡◌, refl, ap, ◌∙◌, add-one, arith}
 use Rattle.docket_theory.specs.Docket.{entries_swept, steps_swept}
-use Rattle.docket.proofs.sweep.sweep_entries.Goals as goal
+use Rattle.docket.proofs.entries.Entries.sweep_entries.Goals as goal
 
 pub loop-i-init : goal.loop-i-init
 unfolding entries_swept
@@ -12,5 +12,5 @@ loop-i-preserved g c = rw add-one (λ d. c.sweep_entry.ensures d ∙ ap (steps_s
 
 pub returns : goal.returns
 returns g c =
-    let e : c.loop-i.i ≡ c.args.live = omega arith in
+    let e : c.loop-i.i ≡ c.args.self.now.live = omega arith in
     rw e at c.loop-i.invariant

@@ -1,6 +1,6 @@
 use Rattle.std.proofs.Common.{not, sym, ap, ◌∙◌}
 use Rattle.model.proofs.Below.{bad_none, bad_more, bad_stop}
-use Rattle.docket.proofs.sweep.lowest_holder.Goals as goal
+use Rattle.docket.proofs.entries.Entries.lowest_holder.Goals as goal
 
 pub loop-h-init : goal.loop-h-init
 loop-h-init g c = bad_none _
