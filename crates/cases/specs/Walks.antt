@@ -1,16 +1,14 @@
 -- The three-cell plan: cell 0 leads into cell 1, a barrier that is open for at most 4 units, and that into the final cell 2, where
 -- clock 1 is at least 2. Leaving cell 0 resets clock 1.
-use Rattle.std.specs.Prelude.{◌≡◌, ℕ, Bool, true, false, List, [], ◌∷◌, replicate, Some, None, Ok, Err, codes, slice_set}
+use Rattle.std.specs.Prelude.{◌≡◌, ℕ, true, false, List, [], ◌∷◌, replicate, Some, None, Ok, Err, codes, slice_set}
 use Rattle.std.proofs.Common.{lit≤}
 use Rattle.slip.specs.declared.Refusal.TheVariants.{NoConfiguration}
 use Rattle.wire.specs.declared.cell.Cell.{Cell}
 use Rattle.wire.specs.declared.cell.Letter.TheVariants.{Barrier}
 use Rattle.model.specs.Cells.{blank_event, unbounded}
 use Rattle.model.specs.Plans.{Plan}
-use Rattle.model.specs.Read.{read_plan}
-use Rattle.trail.specs.declared.position.Position.{Position}
 use Rattle.trail.specs.declared.position.Trail.{Trail}
-use Rattle.trail.specs.Calls.{Outcome, waited, finished, slip_at}
+use Rattle.trail.specs.Calls.{Outcome, waited, finished}
 use Rattle.lines.specs.declared.Line.TheVariants.{Trail as Ended}
 use Rattle.lines.specs.Lines.{lines_text, line_text}
 use Rattle.walking.specs.Walk.{walk_lines}

@@ -1,3 +1,3 @@
-mod Lodging
-mod Parts
-pub mod Shut
+mod Begun
+mod Noted
+mod Shut

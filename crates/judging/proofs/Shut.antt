@@ -1,5 +1,5 @@
 -- A report that says shut excludes every run to a final cell: the world that it speaks of comes of the docket's calls alone.
-use Rattle.std.proofs.Common.{◌≡◌, ℕ, zero, suc, List, [], ◌∷◌, ◌++◌, Some, None, Ok, Err, Option, Result, sym, refl, ap, ◌∙◌, subst, arith}
+use Rattle.std.proofs.Common.{◌≡◌, ℕ, zero, suc, List, [], ◌∷◌, ◌++◌, Some, None, Ok, Err, Option, Result, IsOk, IfOk, sym, refl, ap, ◌∙◌, arith}
 use Rattle.std.specs.List.{slice_get}
 use Rattle.slip.specs.declared.Slip.{Slip}
 use Rattle.clocks.specs.declared.Gap.{Gap}
@@ -8,6 +8,7 @@ use Rattle.wire.specs.declared.step.Step.{Step}
 use Rattle.wire.specs.declared.step.Step.TheVariants.{Wait, Start, Finish}
 use Rattle.wire.specs.Files.{trail_file}
 use Rattle.model.specs.Plans.{Plan, Accepted}
+use Rattle.model.specs.Read.{read_plan}
 use Rattle.trail.specs.declared.position.Position.{Position}
 use Rattle.clockset.specs.Calls.{Calls, ◌⨾◌, cut_all}
 use Rattle.clockset.specs.Laws.{Sound}
@@ -20,7 +21,7 @@ use Rattle.docket_theory.proofs.Promised.{promised, worked_more}
 use Rattle.lines.specs.declared.Line.{Line}
 use Rattle.lines.specs.declared.Line.TheVariants.{Cells, NoTrail, Refused, Verdict, Trail as Ended}
 use Rattle.lines.specs.Lines.{at_position}
-use Rattle.judging.specs.Judge.{unless_refused, lodge_all, step_all, walk_all, verdict_lines, walked_lines, trail_lines, swept_lines, lodged_lines, cover_entries, plan_lines}
+use Rattle.judging.specs.Judge.{unless_refused, lodge_all, step_all, walk_all, verdict_lines, walked_lines, trail_lines, swept_lines, lodged_lines, cover_entries, plan_lines, judge_lines}
 use Rattle.judging.specs.Judge as judge
 
 -- a chain that came through, came through its first part
@@ -107,13 +108,13 @@ module _ {S : Type 0} (holds : S → ℕ → Reading → Type 0) (k : Calls S) (
   pub plan_shut : (cover trail : Option (List ℕ)) → (i : ℕ) → slice_get (plan_lines k cover trail (Ok m)) i ≡ Some (Verdict Shut) → Unreachable m
   unfolding Says
   plan_shut cover trail i e =
-      past (Cells _) (lodged_lines k m trail (cover_entries k cover ⨾ λ es. lodge_all k m es (judge.begun k))) (λ h. let z : ◌≡◌ {A = ℕ} 0 1 = cc in omega arith)
-      (lodged_shut trail (cover_entries k cover ⨾ λ es. lodge_all k m es (judge.begun k))
-      (λ v h. let p = through (cover_entries k cover) (λ es. lodge_all k m es (judge.begun k)) v h in lodged_worked k m p.0 (judge.begun k) v (_, begun _ _) p.2))
+      past (Cells _) (lodged_lines k m trail (cover_entries cover ⨾ λ es. lodge_all k m es (judge.begun k))) (λ h. let z : ◌≡◌ {A = ℕ} 0 1 = cc in omega arith)
+      (lodged_shut trail (cover_entries cover ⨾ λ es. lodge_all k m es (judge.begun k))
+      (λ v h. let p = through (cover_entries cover) (λ es. lodge_all k m es (judge.begun k)) v h in lodged_worked k m p.0 (judge.begun k) v (_, begun _ _) p.2))
       (i, e)
 
--- the same of a report on a model that was read
-pub report_shut : {S : Type 0} (holds : S → ℕ → Reading → Type 0) (k : Calls S) → Sound holds k → (p : Plan) → Accepted p → (r : Result Plan Slip) (cover trail : Option (List ℕ)) (ls : List Line) → r ≡ Ok p → ls ≡ plan_lines k cover trail (Ok p) → (m : Plan) → r ≡ Ok m → (i : ℕ) → slice_get ls i ≡ Some (Verdict Shut) → Unreachable m
-report_shut holds k sound p ok r cover trail ls is lines m also i said =
-    let e : p ≡ m = cc in
-    subst Unreachable e (plan_shut holds k sound p ok cover trail i (ap (λ (l : List Line). slice_get l i) (sym lines) ∙ said))
+-- the same of a report that was made
+pub report_shut : {S V E : Type 0} (holds : S → ℕ → Reading → Type 0) (k : Calls S) → Sound holds k → (model : List ℕ) (cover trail : Option (List ℕ)) (items : V → List Line) (r : Result V E) → (IsOk r → (m : Plan) → read_plan model ≡ Ok m → Accepted m) → IfOk r (λ v. items v ≡ judge_lines k model cover trail) → IfOk r (λ v. (m : Plan) → read_plan model ≡ Ok m → (i : ℕ) → slice_get (items v) i ≡ Some (Verdict Shut) → Unreachable m)
+report_shut holds k sound model cover trail items (Ok v) ok lines = λ m is i said.
+    plan_shut holds k sound m (ok refl m is) cover trail i (ap (λ (ls : List Line). slice_get ls i) (sym (lines ∙ ap (plan_lines k cover trail) is)) ∙ said)
+report_shut holds k sound model cover trail items (Err e) ok lines = tt

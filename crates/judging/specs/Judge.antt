@@ -15,6 +15,11 @@ use Rattle.lines.specs.Lines.{at_position}
 use Rattle.lines.specs.declared.Line.{Line}
 use Rattle.lines.specs.declared.Line.TheVariants.{Cells, NoTrail, Refused, Entries, Verdict, Trail as Ended}
 
+-- no cover has no entries
+abbrev pub cover_entries : Option (List ℕ) → Result (List (ℕ × List Gap)) Slip
+cover_entries None = Ok []
+cover_entries (Some s) = cover_file s
+
 module _ {S : Type 0} (k : Calls S) where
   -- the world after a call that was not refused
   abbrev pub unless_refused : {A : Type 0} → Result A Slip × World S → Result (World S) Slip
@@ -45,17 +50,15 @@ module _ {S : Type 0} (k : Calls S) where
   trail_lines m None w = NoTrail ∷ verdict_lines m w
   trail_lines m (Some s) w = walked_lines m (trail_file s ⨾ λ f. walk_all m f w)
 
+  abbrev pub swept_line : Plan → World S → Line
+  swept_line m w = Entries w.live (duty_count m w) (swept k m w).0
+
   abbrev pub swept_lines : Plan → Option (List ℕ) → World S → List Line
-  swept_lines m trail w = Entries w.live (duty_count m w) (swept k m w).0 ∷ trail_lines m trail (swept k m w).1
+  swept_lines m trail w = swept_line m w ∷ trail_lines m trail (swept k m w).1
 
   abbrev pub lodged_lines : Plan → Option (List ℕ) → Result (World S) Slip → List Line
   lodged_lines m trail (Ok w) = swept_lines m trail w
   lodged_lines m trail (Err e) = Refused e ∷ []
-
-  -- no cover has no entries
-  abbrev pub cover_entries : Option (List ℕ) → Result (List (ℕ × List Gap)) Slip
-  cover_entries None = Ok []
-  cover_entries (Some s) = cover_file s
 
   -- a fresh docket over full tables
   abbrev pub begun : World S

@@ -1,11 +1,10 @@
 -- The lines of a report, byte for byte.
 use Rattle.std.specs.Prelude.{ℕ, ◌+◌, ◌*◌, ◌/◌, ◌%◌, List, [], ◌∷◌, ◌++◌, Some, None, codes, decimal, Option, slice_index}
+use Rattle.std.specs.List.{flat_map}
 use Rattle.slip.specs.Line.{slip_line}
-use Rattle.wire.specs.declared.step.Step.{Step}
-use Rattle.wire.specs.declared.step.Step.TheVariants.{Wait, Start, Finish}
+pub use Rattle.wire.specs.Words.{step_words}
 use Rattle.trail.specs.declared.position.Position.{Position}
-use Rattle.docket_theory.specs.declared.Verdict.{Verdict as Judgement}
-use Rattle.docket_theory.specs.declared.Verdict.TheVariants.{Reached, Shut, Undecided}
+pub use Rattle.docket_theory.specs.Words.{verdict_word}
 use Rattle.lines.specs.declared.Line.{Line}
 use Rattle.lines.specs.declared.Line.TheVariants.{Cells, Took, Trail, NoTrail, Refused, Entries, Verdict}
 
@@ -17,20 +16,10 @@ tenths ticks scale = (20 * ticks + scale) / (2 * scale)
 abbrev pub one_decimal : ℕ → List ℕ → List ℕ
 one_decimal n rest = decimal (n / 10) ++ (codes "." ++ (decimal (n % 10) ++ rest))
 
-abbrev pub step_words : Step → List ℕ
-step_words (Wait n) = codes "wait " ++ decimal n
-step_words (Start d k) = codes "start cell " ++ (decimal d ++ (codes " event " ++ decimal k))
-step_words (Finish k) = codes "finish event " ++ decimal k
-
 -- six counts, with a space between two
 abbrev pub six_counts : List ℕ → List ℕ
 six_counts v =
     decimal (slice_index v 0) ++ (codes " " ++ (decimal (slice_index v 1) ++ (codes " " ++ (decimal (slice_index v 2) ++ (codes " " ++ (decimal (slice_index v 3) ++ (codes " " ++ (decimal (slice_index v 4) ++ (codes " " ++ decimal (slice_index v 5))))))))))
-
-abbrev pub verdict_word : Judgement → List ℕ
-verdict_word Reached = codes "reached"
-verdict_word Shut = codes "shut"
-verdict_word Undecided = codes "undecided"
 
 -- a line with its end
 abbrev pub line_text : Line → List ℕ
@@ -51,5 +40,4 @@ at_position None line = []
 at_position (Some p) line = line p ∷ []
 
 abbrev pub lines_text : List Line → List ℕ
-lines_text [] = []
-lines_text (l ∷ ls) = line_text l ++ lines_text ls
+lines_text ls = flat_map line_text ls

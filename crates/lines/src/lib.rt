@@ -1,8 +1,11 @@
 // The lines that the programs print, byte for byte.
 #![tactic(auto)]
 
-ghost use Rattle.std.specs.Prelude.{◌≡◌, ◌++◌, IfOk, Some, string_bytes, OnOk};
-ghost use Rattle.lines.specs.Lines.{tenths, step_words, six_counts, verdict_word, line_text, lines_text};
+ghost use Rattle.std.specs.Prelude.{◌≡◌, IfOk, Some, string_bytes};
+ghost use Rattle.std.specs.Fmt.{WritesOnOk};
+ghost use Rattle.lines.specs.Lines.{tenths, six_counts, line_text, lines_text};
+
+pub mod report;
 
 use docket_theory::Verdict;
 use slip::Slip;
@@ -44,39 +47,7 @@ fn in_tenths(ticks: u32, scale: u16) -> u64
     (20 * ticks as u64 + scale as u64) / (2 * scale as u64)
 }
 
-// A step in words.
-#[derive(Clone, Copy)]
-struct Words(Step);
-
-impl fmt::Display for Words {
-    ghost output = { λ w. Some (step_words w.0) };
-
-    fn fmt<W: fmt::Write>(&self, f: &mut fmt::Formatter<W>) -> fmt::Result {
-        match self.0 {
-            Step::Wait(ticks) => write!(f, "wait {ticks}"),
-            Step::Start { cell, event } => write!(f, "start cell {cell} event {event}"),
-            Step::Finish(event) => write!(f, "finish event {event}"),
-        }
-    }
-}
-
-// A verdict as a word.
-#[derive(Clone, Copy)]
-struct Word(Verdict);
-
-impl fmt::Display for Word {
-    ghost output = { λ w. Some (verdict_word w.0) };
-
-    fn fmt<W: fmt::Write>(&self, f: &mut fmt::Formatter<W>) -> fmt::Result {
-        match self.0 {
-            Verdict::Reached => write!(f, "reached"),
-            Verdict::Shut => write!(f, "shut"),
-            Verdict::Undecided => write!(f, "undecided"),
-        }
-    }
-}
-
-// Six counts, with a space between two.
+// Six counts, with a space between two. A type, since an array does not print; one format, since a loop with a test for the first is no plainer.
 #[derive(Clone, Copy)]
 struct Counts([u32; 6]);
 
@@ -84,69 +55,56 @@ impl fmt::Display for Counts {
     ghost output = { λ c. Some (six_counts c.0) };
 
     fn fmt<W: fmt::Write>(&self, f: &mut fmt::Formatter<W>) -> fmt::Result {
-        let counts = self.0;
-        let a = counts[0];
-        let b = counts[1];
-        let c = counts[2];
-        let d = counts[3];
-        let e = counts[4];
-        let g = counts[5];
+        let [a, b, c, d, e, g] = self.0;
         write!(f, "{a} {b} {c} {d} {e} {g}")
     }
 }
 
-fn took_line(heap: Global, step: Step, p: Position) -> Result<String, AllocError>
-    ensures { IfOk result (λ t. string_bytes t ≡ line_text (Line.Took step p)) }
+// A line with its end.
+impl fmt::Display for Line {
+    ghost output = { λ l. Some (line_text l) };
+
+    fn fmt<W: fmt::Write>(&self, f: &mut fmt::Formatter<W>) -> fmt::Result {
+        match self {
+            Line::Cells(count) => write!(f, "cells {count}\n"),
+            Line::Took(step, position) => write_took(f, *step, *position),
+            Line::Trail(position) => write_trail(f, *position),
+            Line::NoTrail => write!(f, "trail none\n"),
+            Line::Refused(slip) => write!(f, "{slip}\n"),
+            Line::Entries {
+                entries,
+                duties,
+                open,
+            } => write!(f, "entries {entries} duties {duties} open {open}\n"),
+            Line::Verdict(verdict) => write!(f, "verdict {verdict}\n"),
+        }
+    }
+}
+
+fn write_took<W: fmt::Write>(f: &mut fmt::Formatter<W>, step: Step, p: Position) -> fmt::Result
+    ensures { WritesOnOk W.write_str_gives f.old result (line_text (Line.Took step p)) f.new }
 {
-    let words = Words(step);
     let cell = p.cell;
     let counts = Counts(p.counts);
     let elapsed = p.elapsed;
-    format!(in heap; "{words}: cell {cell} counts {counts} elapsed {elapsed}\n")
+    write!(f, "{step}: cell {cell} counts {counts} elapsed {elapsed}\n")
 }
 
-fn trail_line(heap: Global, p: Position) -> Result<String, AllocError>
-    ensures { IfOk result (λ t. string_bytes t ≡ line_text (Line.Trail p)) }
+fn write_trail<W: fmt::Write>(f: &mut fmt::Formatter<W>, p: Position) -> fmt::Result
+    ensures { WritesOnOk W.write_str_gives f.old result (line_text (Line.Trail p)) f.new }
 {
     let cell = p.cell;
     let tenths = in_tenths(p.elapsed, p.scale);
     let whole = tenths / 10;
     let part = tenths % 10;
-    format!(in heap; "trail cell {cell} elapsed {whole}.{part}\n")
-}
-
-fn verdict_line(heap: Global, verdict: Verdict) -> Result<String, AllocError>
-    ensures { IfOk result (λ t. string_bytes t ≡ line_text (Line.Verdict verdict)) }
-{
-    let word = Word(verdict);
-    format!(in heap; "verdict {word}\n")
+    write!(f, "trail cell {cell} elapsed {whole}.{part}\n")
 }
 
 // The text of one line, with its end.
 pub fn text_of(heap: Global, line: Line) -> Result<String, AllocError>
     ensures { IfOk result (λ t. string_bytes t ≡ line_text line) }
 {
-    match line {
-        Line::Cells(count) => format!(in heap; "cells {count}\n"),
-        Line::Took(step, position) => took_line(heap, step, position),
-        Line::Trail(position) => trail_line(heap, position),
-        Line::NoTrail => format!(in heap; "trail none\n"),
-        Line::Refused(slip) => format!(in heap; "{slip}\n"),
-        Line::Entries {
-            entries,
-            duties,
-            open,
-        } => format!(in heap; "entries {entries} duties {duties} open {open}\n"),
-        Line::Verdict(verdict) => verdict_line(heap, verdict),
-    }
-}
-
-fn add_line(heap: Global, out: &mut String, line: Line) -> Result<(), AllocError>
-    ensures { OnOk result (string_bytes out.new ≡ string_bytes out.old ++ line_text line) }
-{
-    let text = text_of(heap, line)?;
-    out.push_str(&text)?;
-    Ok(())
+    format!(in heap; "{line}")
 }
 
 // The text of all lines.
@@ -155,7 +113,7 @@ pub fn text_of_all(heap: Global, lines: &[Line]) -> Result<String, AllocError>
 {
     let mut out = String::new(heap);
     for line in lines {
-        add_line(heap, &mut out, *line)?;
+        write!(out, "{line}")?;
     }
     Ok(out)
 }
