@@ -2,14 +2,14 @@
 
 #![tactic(auto)]
 
-ghost use Rattle.std.specs.Prelude.{◌≡◌, ℕ, ◌^◌, ◌<◌, ◌≤◌, true, false, not, ◌&&◌, map, length, if◌then◌else◌, Some, None, ◌==◌};
+ghost use Rattle.std.specs.Prelude.{◌≡◌, ℕ, ◌/◌, ◌%◌, ◌^◌, ◌<◌, ◌≤◌, true, false, not, ◌&&◌, map, length, if◌then◌else◌, Some, None, ◌==◌};
 ghost use Rattle.clocks.specs.Gaps.{good_gap};
 ghost use Rattle.clocks.specs.Readings.{in_mask};
 ghost use Rattle.weight.specs.Closing.{cell, empty_form, Within};
 ghost use Rattle.zone_theory.specs.Matrices.{home as home_of};
 ghost use Rattle.zone_theory.specs.Sets.{tabled, tight, canonical_form, or_empty, cut_weights, cut_form, reset_form, delay_form, beneath_all, within_form};
 
-use clocks::{Gap, stands_in};
+use clocks::Gap;
 use std::array;
 use weight::{Weight, close};
 
@@ -62,13 +62,21 @@ pub fn canonicalize<W: Weight>(m: &mut [W]) -> bool
     close(m)
 }
 
+// Not `clocks::stands_in`, which answers for any clock: asked at each of 49 places, it makes a reset a third slower.
+fn bit(mask: u8, k: usize) -> bool
+    requires { k < 8 }
+    ensures { result ≡ (mask / 2 ^ k % 2 == 1) }
+{
+    (mask >> k) & 1 == 1
+}
+
 // Where the count of clock i comes from when the clocks of a mask are put to zero: bit 0 names clock 1.
 fn home(mask: u8, i: usize) -> usize
     requires { i < 7 }
     ensures same { result ≡ home_of (in_mask mask) i }
     ensures inside { result < 7 }
 {
-    if stands_in(mask, i) { 0 } else { i }
+    if i == 0 || bit(mask, i - 1) { 0 } else { i }
 }
 
 // The clocks of a mask are put to zero in a closed form.

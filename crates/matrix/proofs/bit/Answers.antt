@@ -1,0 +1,6 @@
+use Rattle.std.proofs.Common.{ℕ, ◌/◌, ◌^◌, eqb, ap}
+use Rattle.std.proofs.lemmas.Nat.{and_mask}
+use Rattle.matrix.proofs.bit.Goals as goal
+
+pub returns : goal.returns
+returns c = ap (λ (x : ℕ). eqb x 1) (and_mask (c.args.mask / 2 ^ c.args.k) 1)
