@@ -62,7 +62,7 @@ pub fn canonicalize<W: Weight>(m: &mut [W]) -> bool
     close(m)
 }
 
-// Not `clocks::stands_in`, which answers for any clock: asked at each of 49 places, it makes a reset a third slower.
+// Not `clocks::stands_in`, which answers for any clock: asked at each of 49 places, it makes a reset a fifth slower.
 fn bit(mask: u8, k: usize) -> bool
     requires { k < 8 }
     ensures { result ≡ (mask / 2 ^ k % 2 == 1) }
