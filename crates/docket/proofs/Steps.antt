@@ -1,6 +1,6 @@
 -- The steps out of a cell, also of one that the model does not have.
 use Rattle.std.proofs.Common.{◌≡◌, ℕ, zero, suc, ◌<◌, ◌≤◌, Bool, true, false, cond, eqb, ltb, List, [], ◌∷◌, length, get_or, vec_items, Some, None, Option, sym, refl, ◌∙◌, arith}
-use Rattle.std.proofs.lemmas.List.{get_or_past}
+use Rattle.std.proofs.lemmas.List.{get_or_past, length-take-le}
 use Rattle.std.proofs.lemmas.Option.{slice_get-get_or}
 use Rattle.std.proofs.lemmas.Bool.{ltb-true, ltb-false, leb-true, ne_eqb}
 use Rattle.std.specs.List.{slice_get}
@@ -16,6 +16,7 @@ use Rattle.model.specs.Rules.{every_cell, faces_in, few_ok}
 use Rattle.model.specs.Taken.{taken}
 use Rattle.model.specs.Whole.{plan_of}
 use Rattle.model.proofs.Below.{all_at}
+use Rattle.model.proofs.Capped.{get_taken}
 use Rattle.model.proofs.Within.{face_within}
 use Rattle.docket_theory.specs.declared.Entry.{Entry}
 use Rattle.docket_theory.specs.Docket.{steps_out, open_one, open_steps}
@@ -62,9 +63,20 @@ module _ {S : Type 0} (m : Model) where
       parts true is = leb-true _ _ (all_at (length cells) e.cell (few_ok cells) m.few (ltb-true _ _ is))
       parts false is = rw (wait_only cells m.linked e.cell (ltb-false _ _ is)) (omega arith)
 
--- what a slice of steps says of the list that it stands for
-pub listed_step : (here steps : List Move) → here ≡ steps → (j : ℕ) (d : Move) → j < length here → slice_get steps j ≡ Some (get_or here j d)
-listed_step here steps is j d lt = rw (← is) (slice_get-get_or here j d lt)
+-- what a table of steps says of the list that it stands for
+module _ (moves : Moves) (steps : List Move) (is : taken moves ≡ steps) where
+  fits : moves.count ≤ length moves.list
+  fits = omega (arith, moves.long, moves.most)
+
+  pub listed_step : (j : ℕ) (d : Move) → j < moves.count → slice_get steps j ≡ Some (get_or moves.list j d)
+  listed_step j d lt = rw (← is) (sym (get_taken moves.list moves.count j d fits lt))
+
+  pub counted_steps : length steps ≡ moves.count
+  counted_steps = rw (← is) (length-take-le moves.count moves.list fits)
+
+-- and what a slice of them says
+pub lent_step : (here steps : List Move) → here ≡ steps → (j : ℕ) (d : Move) → j < length here → slice_get steps j ≡ Some (get_or here j d)
+lent_step here steps is j d lt = rw (← is) (slice_get-get_or here j d lt)
 
 -- an open mark counts once, so no more steps are open than there are
 pub one_open : (t : ℕ) → open_one t ≤ 1

@@ -51,10 +51,14 @@ impl Docket {
         self.trail.finish(model, k)
     }
 
-    // Makes a step of a trail file on the trail.
+    // Makes a step of a trail file on the trail, by the call that is its own.
     pub fn step(&mut self, model: &Model, step: Step) -> Result<(), Slip>
         ensures { (result, self.new) ≡ trailed (stepped (plan_of model.now) step self.old.trail) self.old }
     {
-        self.trail.step(model, step)
+        match step {
+            Step::Wait(ticks) => self.wait(model, ticks),
+            Step::Start { cell, event } => self.start(model, cell, event),
+            Step::Finish(event) => self.finish(model, event),
+        }
     }
 }

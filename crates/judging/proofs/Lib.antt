@@ -1,3 +1,3 @@
 mod Begun
 mod Noted
-mod Shut
+pub mod Shut

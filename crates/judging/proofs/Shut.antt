@@ -1,5 +1,5 @@
 -- A report that says shut excludes every run to a final cell: the world that it speaks of comes of the docket's calls alone.
-use Rattle.std.proofs.Common.{◌≡◌, ℕ, zero, suc, List, [], ◌∷◌, ◌++◌, Some, None, Ok, Err, Option, Result, IsOk, IfOk, sym, refl, ap, ◌∙◌, arith}
+use Rattle.std.proofs.Common.{◌≡◌, ℕ, zero, suc, List, [], ◌∷◌, ◌++◌, Some, None, Ok, Err, Option, Result, IsOk, IfOk, sym, refl, ap, ◌∙◌, subst, arith}
 use Rattle.std.specs.List.{slice_get}
 use Rattle.slip.specs.declared.Slip.{Slip}
 use Rattle.clocks.specs.declared.Gap.{Gap}
@@ -113,8 +113,14 @@ module _ {S : Type 0} (holds : S → ℕ → Reading → Type 0) (k : Calls S) (
       (λ v h. let p = through (cover_entries cover) (λ es. lodge_all k m es (judge.begun k)) v h in lodged_worked k m p.0 (judge.begun k) v (_, begun _ _) p.2))
       (i, e)
 
+-- the same of a report on a model that was read
+pub report_shut : {S : Type 0} (holds : S → ℕ → Reading → Type 0) (k : Calls S) → Sound holds k → (p : Plan) → Accepted p → (r : Result Plan Slip) (cover trail : Option (List ℕ)) (ls : List Line) → r ≡ Ok p → ls ≡ plan_lines k cover trail (Ok p) → (m : Plan) → r ≡ Ok m → (i : ℕ) → slice_get ls i ≡ Some (Verdict Shut) → Unreachable m
+report_shut holds k sound p ok r cover trail ls is lines m also i said =
+    let e : p ≡ m = cc in
+    subst Unreachable e (plan_shut holds k sound p ok cover trail i (ap (λ (l : List Line). slice_get l i) (sym lines) ∙ said))
+
 -- the same of a report that was made
-pub report_shut : {S V E : Type 0} (holds : S → ℕ → Reading → Type 0) (k : Calls S) → Sound holds k → (model : List ℕ) (cover trail : Option (List ℕ)) (items : V → List Line) (r : Result V E) → (IsOk r → (m : Plan) → read_plan model ≡ Ok m → Accepted m) → IfOk r (λ v. items v ≡ judge_lines k model cover trail) → IfOk r (λ v. (m : Plan) → read_plan model ≡ Ok m → (i : ℕ) → slice_get (items v) i ≡ Some (Verdict Shut) → Unreachable m)
-report_shut holds k sound model cover trail items (Ok v) ok lines = λ m is i said.
+pub judged_shut : {S V E : Type 0} (holds : S → ℕ → Reading → Type 0) (k : Calls S) → Sound holds k → (model : List ℕ) (cover trail : Option (List ℕ)) (items : V → List Line) (r : Result V E) → (IsOk r → (m : Plan) → read_plan model ≡ Ok m → Accepted m) → IfOk r (λ v. items v ≡ judge_lines k model cover trail) → IfOk r (λ v. (m : Plan) → read_plan model ≡ Ok m → (i : ℕ) → slice_get (items v) i ≡ Some (Verdict Shut) → Unreachable m)
+judged_shut holds k sound model cover trail items (Ok v) ok lines = λ m is i said.
     plan_shut holds k sound m (ok refl m is) cover trail i (ap (λ (ls : List Line). slice_get ls i) (sym (lines ∙ ap (plan_lines k cover trail) is)) ∙ said)
-report_shut holds k sound model cover trail items (Err e) ok lines = tt
+judged_shut holds k sound model cover trail items (Err e) ok lines = tt

@@ -6,6 +6,7 @@ ghost use Rattle.kinds_export.specs.Codes.{sign_of, code_of, set_of, codes_of};
 use crate::answer::{gap_of, put};
 use clockset::ClockSet;
 use order_set::OrderSet;
+use std::array;
 use weight::OrderSign;
 
 // An order set in plain bytes, since foreign code could write a sign that is none: 0 is below zero, 1 at most zero, every other
@@ -42,7 +43,7 @@ impl From<OrderCodes> for OrderSet {
 
     fn from(set: OrderCodes) -> OrderSet {
         OrderSet {
-            signs: set.codes.map(sign_of),
+            signs: array::from_fn(|p| sign_of(set.codes[p])),
         }
     }
 }
@@ -52,7 +53,7 @@ impl From<OrderSet> for OrderCodes {
 
     fn from(set: OrderSet) -> OrderCodes {
         OrderCodes {
-            codes: set.signs.map(code_of),
+            codes: array::from_fn(|p| code_of(set.signs[p])),
         }
     }
 }

@@ -1,5 +1,5 @@
 -- The steps of a loop that tests all numbers below a bound.
-use Rattle.std.proofs.Common.{◌≡◌, ℕ, zero, suc, ◌+◌, ◌<◌, Bool, true, false, cond, ◌&&◌, Some, None, Option, refl, inl, inr, add-one, arith}
+use Rattle.std.proofs.Common.{◌≡◌, ℕ, zero, suc, ◌+◌, ◌<◌, ◌≤◌, Bool, true, false, cond, ◌&&◌, Some, None, Option, refl, subst, inl, inr, add-one, arith}
 use Rattle.std.proofs.lemmas.Bool.{and_from, and_parts, and_left, and_right, cases_order}
 use Rattle.model.specs.Below.{all_below, first_bad, or_else}
 
@@ -36,6 +36,13 @@ unfolding first_bad
 bad_stop zero k f lt h e = absurd (omega arith)
 bad_stop (suc n) k f lt h e =
     elim (cases_order k n) [ inl eq ↦ rw (← eq, h, e) | inr (inl less) ↦ rw (bad_stop n k f less h e) | inr (inr more) ↦ absurd (omega arith) ]
+
+-- nothing fails from n on
+pub bad_rest : (n m : ℕ) (f : ℕ → Bool) → first_bad n f ≡ None → ((k : ℕ) → n ≤ k → f k ≡ true) → n ≤ m → first_bad m f ≡ None
+unfolding first_bad
+bad_rest n zero f h past le = refl
+bad_rest n (suc m) f h past le =
+    elim (cases_order n (suc m)) [ inl eq ↦ subst (λ x. first_bad x f ≡ None) eq h | inr (inl less) ↦ rw (bad_rest n m f h past (omega arith), past m (omega arith)) | inr (inr more) ↦ absurd (omega arith) ]
 
 pub all_from_none : (n : ℕ) (f : ℕ → Bool) → first_bad n f ≡ None → all_below n f ≡ true
 unfolding all_below first_bad

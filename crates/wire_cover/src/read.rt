@@ -1,13 +1,14 @@
 // The entries of a cover, one after another, and the whole file.
 ghost use Rattle.std.specs.Prelude.{◌≡◌, ℕ, List, map};
 ghost use Rattle.wire_fields.specs.Faults.{Gives, Heeds};
-ghost use Rattle.wire_fields.specs.Readers.{Gathers};
+ghost use Rattle.wire_fields.specs.Readers.{Takes, Gathers};
 ghost use Rattle.wire_cover.specs.CoverFormat.{gap_of, gap_at, gaps_at, entry_at};
 ghost use Rattle.clocks.specs.declared.Gap.{Gap};
 ghost use Rattle.wire_cover.specs.Covers.{entry_seen, entries_at, cover_file, cover_head, cover_seen};
 
 use crate::cover::{CoverEntry, CoverFile};
 use clocks::{Gap, Sign};
+use slip::Slip;
 use std::alloc::Global;
 use wire_fields::fault::Fault;
 use wire_fields::reader::{Reader, fits};
@@ -25,6 +26,15 @@ fn gap_of(first: u8, second: u8, word: i32) -> Gap
     }
 }
 
+fn read_gap(reader: &mut Reader<'_>) -> Result<Gap, Slip>
+    ensures { Takes gap_at reader.old reader.new result }
+{
+    let first = reader.byte()?;
+    let second = reader.byte()?;
+    let word = reader.signed()?;
+    Ok(gap_of(first, second, word))
+}
+
 // An entry holds many.
 impl Record<CoverFile> for Gap {
     ghost Seen = { Gap };
@@ -34,10 +44,8 @@ impl Record<CoverFile> for Gap {
     ghost stands = { gap_at };
 
     fn read(reader: &mut Reader<'_>, _heap: Global) -> Result<Gap, Fault> {
-        let first = reader.byte()?;
-        let second = reader.byte()?;
-        let word = reader.signed()?;
-        Ok(gap_of(first, second, word))
+        let gap = read_gap(reader)?;
+        Ok(gap)
     }
 }
 

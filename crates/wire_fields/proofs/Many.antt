@@ -26,7 +26,7 @@ module _ {A C : Type 0} (put : C → ℕ → A → C) (d : ℕ → List ℕ → 
       record { reads = rw (add-one, i.reads) (rw (ap (λ b. b.now) (sym i.same)) (rw h.reads refl)); same = h.same ∙ i.same }
 
   -- where reading k is refused, so are all n
-  many_stop : (s t : List ℕ) (p k n q : ℕ) (xs : C) (e : Slip) → k < n → t ≡ s → many put d es k s p ≡ Ok (xs, q) → d k t q ≡ Err e
+  pub many_stop : (s t : List ℕ) (p k n q : ℕ) (xs : C) (e : Slip) → k < n → t ≡ s → many put d es k s p ≡ Ok (xs, q) → d k t q ≡ Err e
       → many put d es n s p ≡ Err e
   unfolding many
   many_stop s t p k zero q xs e lt same i h = absurd (omega arith)

@@ -6,7 +6,7 @@ use Rattle.docket_theory.specs.Docket.{steps_swept}
 use Rattle.docket_theory.specs.Worlds.{open_mark}
 use Rattle.docket.specs.World.{world}
 use Rattle.docket.proofs.Rows.{row_live}
-use Rattle.docket.proofs.Steps.{listed_step}
+use Rattle.docket.proofs.Steps.{lent_step}
 use Rattle.docket.proofs.Sweeps.{step_more}
 use Rattle.docket.proofs.entries.Entries.sweep_entry.Goals as goal
 
@@ -20,7 +20,7 @@ loop-j-preserved g c =
     let live = row_live c.args.self.now.rows.now c.args.self.now.live c.args.i c.in-Some.from here in
     let lt : c.args.i < open_mark = search rules in
     let steps = c.steps-step-items.ensures ∙ c.steps_from-moves.ensures in
-    let step = listed_step c.steps-step-items.result.now (moves_out (plan_of c.args.model.now).cells c.in-Some.from.cell) steps c.loop-j.j Wait c.loop-j-test.true in
+    let step = lent_step c.steps-step-items.result.now (moves_out (plan_of c.args.model.now).cells c.in-Some.from.cell) steps c.loop-j.j Wait c.loop-j-test.true in
     λ d. step_more _ (plan_of c.args.model.now) c.args.self.now.rows.now c.args.self.now.live c.args.i d (world c.args.self.now c.args.marks.now d) c.loop-j.j c.loop-j.marks _ c.in-Some.from _ lt here step c.sweep_step.ensures (c.loop-j.invariant d)
 
 pub returns-after-loop-j : goal.returns-after-loop-j
